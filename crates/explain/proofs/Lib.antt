@@ -1,0 +1,4 @@
+pub mod Spelled
+pub mod Argued
+pub mod Divided
+pub mod Texts

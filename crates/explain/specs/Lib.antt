@@ -1,0 +1,4 @@
+pub mod Arguments
+pub mod Spelling
+pub mod Quotient
+pub mod Answers
