@@ -33,7 +33,7 @@ fn another_number_gets_the_refusal_line(rt: LibcRuntime) -> Result<(), Fail> {
     check(says(heap, b"18446744073709551618", b"1", line)?)
 }
 
-// 2^65 by x leaves 2^64, one digit too long; 2^64 by x leaves 2^63.
+// The quotient of 2^64 by x is 2^63, and that of 2^65 + 1 is 2^64, one digit too long.
 #[test]
 fn a_quotient_is_shown_while_it_fits(rt: LibcRuntime) -> Result<(), Fail> {
     let heap = rt.alloc();

@@ -1,5 +1,5 @@
 -- The quotient of a response, one bit longer.
-use mathlib.Core.Path.{_≡_, sym, ap, ap₂, _∙_, subst}
+use mathlib.Core.Path.{_≡_, ap₂, subst}
 use mathlib.Core.Bool.{Bool, false}
 use mathlib.Core.List.{List}
 use mathlib.Core.Logic.{inl, inr}
@@ -28,24 +28,19 @@ quotient-more f p c d (Some q) on (m, a) = elim (cases-lt (2 * q + d) (2 ^ 64)) 
   | inr l ↦ rw (le-ltb (2 * q + d) (2 ^ 64) l) (2 * q + d, l, on q a)
 ]
 
-module _ (f : ℕ) (some : 0 < f) (bits : List Bool) (i : ℕ) (within : i < length bits) (r d s : ℕ) (o : Option ℕ)
-    (so-far : Quotient f (polynomial (take i bits)) o) (left : r ≡ residue f (polynomial (take i bits)))
-    (next : Division (2 * r + boolByte (getD bits i false)) f d s) where
-  on : (q : ℕ) → Division (polynomial (take i bits)) f q (residue f (polynomial (take i bits)))
-      → Division (2 * polynomial (take i bits) + bit (getD bits i false)) f (2 * q + d) (residue f (2 * polynomial (take i bits) + bit (getD bits i false)))
-      × (d < 2) × (s ≡ residue f (2 * polynomial (take i bits) + bit (getD bits i false)))
-  on q a =
-      division-on f some (polynomial (take i bits)) q (bit (getD bits i false)) d s (bit-below (getD bits i false)) a
-      (subst (λ t. Division t f d s) (ap₂ (λ x y. 2 * x + y) left (bit-is (getD bits i false))) next)
+-- x·p + c, with the digit and the rest that a division gave
+next-digit : (f : ℕ) → 0 < f → (p c : ℕ) → c < 2 → (o : Option ℕ) (d s : ℕ) → Quotient f p o → Division (2 * residue f p + c) f d s
+    → (d < 2) × Quotient f (2 * p + c) (appended o d) × (s ≡ residue f (2 * p + c))
+next-digit f some p c l o d s so-far next =
+    let q = some-quotient f p o so-far in
+    let on = division-on f some p (q .0) c d s l (q .1) next in
+    (on .1, quotient-more f p c d o (λ m a. division-on f some p m c d s l a next .0) so-far, on .2)
 
-  known : (q : ℕ) × Division (polynomial (take i bits)) f q (residue f (polynomial (take i bits)))
-  known = some-quotient f (polynomial (take i bits)) o so-far
-
-  pub digit-small : d < 2
-  digit-small = on (known .0) (known .1) .1
-
-  pub quotient-on : Quotient f (polynomial (take (i + 1) bits)) (appended o d)
-  quotient-on = rw (polynomial-more bits i within) (quotient-more f (polynomial (take i bits)) (bit (getD bits i false)) d o (λ q a. on q a .0) so-far)
-
-  pub residue-on : s ≡ residue f (polynomial (take (i + 1) bits))
-  residue-on = on (known .0) (known .1) .2 ∙ ap (residue f) (sym (polynomial-more bits i within))
+-- a response with one bit more
+pub next-bit : (f : ℕ) → 0 < f → (bits : List Bool) (i : ℕ) → i < length bits → (o : Option ℕ) (r d s : ℕ) → Quotient f (polynomial (take i bits)) o → r ≡ residue f (polynomial (take i bits))
+    → Division (2 * r + boolByte (getD bits i false)) f d s
+    → (d < 2) × Quotient f (polynomial (take (i + 1) bits)) (appended o d) × (s ≡ residue f (polynomial (take (i + 1) bits)))
+next-bit f some bits i within o r d s so-far left next =
+    let b = getD bits i false in
+    rw (polynomial-more bits i within)
+    (next-digit f some (polynomial (take i bits)) (bit b) (bit-below b) o d s so-far (subst (λ t. Division t f d s) (ap₂ (λ x y. 2 * x + y) left (bit-is b)) next))

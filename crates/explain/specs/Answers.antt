@@ -53,7 +53,7 @@ Explains-typed code bits text = (b : List Bool) × (bits ≡ typed b) × Explain
 pub record Read (text : List ℕ) (v : ℕ) : Type 0 where
   pub numeral : Numeral text
   pub value : v ≡ min (number text) (2 ^ 64 - 1)
-  pub same : (bits explanation : List ℕ) → Explains-typed v bits explanation → Explains-typed (number text) bits explanation
+  pub same : (bits said : List ℕ) → Explains-typed v bits said → Explains-typed (number text) bits said
 
 -- the answer to two texts; the first that is not what it should be is named
 abbrev pub Answers : List ℕ → List ℕ → Answer → Type 0

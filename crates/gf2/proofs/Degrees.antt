@@ -1,7 +1,7 @@
 -- Degrees: of a product, of a code, and how they order codes.
 use mathlib.Core.Path.{_≡_, refl, sym, ap, _∙_, subst}
 use Prim.Native.Nat.{ℕ, zero, suc, _+_, _-_, _*_, _/_, _%_, _^_, _≤_, _<_}
-use native.Mathlib.Nat.{zero-add, suc-add, le-antisymm}
+use native.Mathlib.Nat.{zero-add, suc-add}
 use native.Mathlib.Decide.{decLt}
 use native.Mathlib.Omega.{arith}
 use lib.Arith.{bin-ind}
@@ -42,19 +42,6 @@ pow-le-of j k h = by (decLt k j)
     by (yes l) = let p : 2 ^ suc k ≤ 2 ^ j = pow-mono l in absurd (omega arith)
     by (no l) = omega arith
 
-pub pow-lt-of : (j k : ℕ) → 2 ^ j < 2 ^ k → j < k
-pow-lt-of j k h = by (decLt j k)
-  where
-    by : Dec (j < k) → j < k
-    by (yes l) = l
-    by (no l) = let p : 2 ^ k ≤ 2 ^ j = pow-mono (omega arith) in absurd (omega arith)
-
-pub degree-unique : (a j k : ℕ) → Degree a j → Degree a k → j ≡ k
-degree-unique a j k g h = le-antisymm (below j k g h) (below k j h g)
-  where
-    below : (j k : ℕ) → Degree a j → Degree a k → j ≤ k
-    below j k g h = pow-le-of j k (omega arith)
-
 -- a multiple of f, but for 0, is not below 2^k
 pub times-big : (a f k : ℕ) → 0 < a → Degree f k → 2 ^ k ≤ times a f
 times-big a f k h g =
@@ -92,9 +79,6 @@ one-degree (suc zero) h = absurd (omega arith)
 one-degree (suc (suc f)) h = omega arith
 
 -- ---- degrees and orders of codes
-
-pub degree-reach : (f k : ℕ) → 0 < f → k ≤ degree f → 2 ^ k ≤ f
-degree-reach f k h l = let p : 2 ^ k ≤ 2 ^ degree f = pow-mono l in omega (arith, degree-at f h)
 
 pub degree-below : (f k : ℕ) → 0 < f → degree f ≤ k → f < 2 * 2 ^ k
 degree-below f k h l = let p : 2 ^ degree f ≤ 2 ^ k = pow-mono l in omega (arith, degree-at f h)

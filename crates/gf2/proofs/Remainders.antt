@@ -9,9 +9,9 @@ use lib.Arith.{bin-ind}
 use lib.Pow.{pow-pos}
 use lib.Bits.{bitXor, xor-assoc, xor-comm, xor-self, xor-zero-r, xor-lt}
 use Rattle.gf2.specs.Polynomials.{times, Divides, Division, clocked, residue}
-use Rattle.gf2.proofs.Sums.{Degree, carry-below, of-top, shr-zero, top-of, xors, xor-eq-zero, xor-move, double-xor, xor-digit, xor-swap, degree-xor, degrees-xor}
+use Rattle.gf2.proofs.Sums.{Degree, carry-below, carry-fits, top-of, xors, xor-eq-zero, xor-move, double-xor, xor-digit, xor-swap, degree-xor, degrees-xor}
 use Rattle.gf2.proofs.Horner.{horner-step}
-use Rattle.gf2.proofs.Times.{times-one, times-odd, times-double, times-zero, times-xor-l}
+use Rattle.gf2.proofs.Times.{times-odd, times-double, times-zero, times-xor-l}
 use Rattle.gf2.proofs.Degrees.{times-big, degree-is}
 
 -- a division with the divisor's degree at hand, as the proofs use it
@@ -92,15 +92,21 @@ module _ (k f : ℕ) (d : Degree f k) where
     degrees-xor (2 * r + c) f k (omega arith) d,
   )
 
-  -- one clock, with a quotient
-  pub division-clocked : (p q r c : ℕ) → c < 2 → DivisionAt k p f q r → (q′ : ℕ) × DivisionAt k (2 * p + c) f q′ (clocked f r c)
-  division-clocked p q r c h a = by (decLt (2 * r + c) (2 ^ k))
+  -- one clock without a test: what stands at x^k says whether f is taken off
+  clocked-carry : (r c : ℕ) → r < 2 ^ k → c < 2 → clocked f r c ≡ bitXor (2 * r + c) ((2 * r + c) / 2 ^ k * f)
+  clocked-carry r c l h = by (decLt (2 * r + c) (2 ^ k))
     where
-      by : Dec (2 * r + c < 2 ^ k) → (q′ : ℕ) × DivisionAt k (2 * p + c) f q′ (clocked f r c)
-      by (yes l) = (2 * q, rw (clocked-low r c l) (division-low p q r c h a l))
-      by (no l) =
-          let g : 2 ^ k ≤ 2 * r + c = omega arith in
-          (2 * q + 1, rw (clocked-high r c (a .1) h g) (division-high p q r c h a g))
+      by : Dec (2 * r + c < 2 ^ k) → clocked f r c ≡ bitXor (2 * r + c) ((2 * r + c) / 2 ^ k * f)
+      by (yes m) = rw (div-eq-of-lt m, zero-mul, xor-zero-r) (clocked-low r c m)
+      by (no m) = rw (top-of (2 * r + c) k (omega arith), one-mul) (clocked-high r c l h (omega arith))
+
+  -- and one digit more of a division
+  pub division-carry : (p q r c : ℕ) → c < 2 → DivisionAt k p f q r → DivisionAt k (2 * p + c) f (2 * q + (2 * r + c) / 2 ^ k) (bitXor (2 * r + c) ((2 * r + c) / 2 ^ k * f))
+  division-carry p q r c h a = by (decLt (2 * r + c) (2 ^ k))
+    where
+      by : Dec (2 * r + c < 2 ^ k) → DivisionAt k (2 * p + c) f (2 * q + (2 * r + c) / 2 ^ k) (bitXor (2 * r + c) ((2 * r + c) / 2 ^ k * f))
+      by (yes l) = rw (div-eq-of-lt l, zero-mul, xor-zero-r, add-zero) (division-low p q r c h a l)
+      by (no l) = rw (top-of (2 * r + c) k (omega arith), one-mul) (division-high p q r c h a (omega arith))
 
   pub residue-division : (p : ℕ) → (q : ℕ) × DivisionAt k p f q (residue f p)
   residue-division =
@@ -108,7 +114,7 @@ module _ (k f : ℕ) (d : Degree f k) where
       (λ p ih.
       let e : 2 * (p / 2) + p % 2 ≡ p = omega arith in
       subst (λ x. (q : ℕ) × DivisionAt k x f q (residue f x)) e
-      (rw (residue-more f (p / 2) (p % 2) (omega arith)) (division-clocked (p / 2) (ih .0) (residue f (p / 2)) (p % 2) (omega arith) (ih .1))))
+      (rw (residue-more f (p / 2) (p % 2) (omega arith), clocked-carry (residue f (p / 2)) (p % 2) (ih .1 .1) (omega arith)) (_, division-carry (p / 2) (ih .0) (residue f (p / 2)) (p % 2) (omega arith) (ih .1))))
 
   pub residue-below : (p : ℕ) → residue f p < 2 ^ k
   residue-below p = residue-division p .1 .1
@@ -150,23 +156,12 @@ module _ (k f : ℕ) (d : Degree f k) where
   pub residue-again : (p c : ℕ) → c < 2 → residue f (2 * residue f p + c) ≡ residue f (2 * p + c)
   residue-again p c l = sym (clocked-is (residue f p) c (residue-below p) l) ∙ sym (residue-more f p c l)
 
-  -- one digit more of a division, without a test: what stands at x^k says whether f is taken off
-  pub division-carry : (p q r c : ℕ) → c < 2 → DivisionAt k p f q r → DivisionAt k (2 * p + c) f (2 * q + (2 * r + c) / 2 ^ k) (bitXor (2 * r + c) ((2 * r + c) / 2 ^ k * f))
-  division-carry p q r c h a = by (decLt (2 * r + c) (2 ^ k))
-    where
-      by : Dec (2 * r + c < 2 ^ k) → DivisionAt k (2 * p + c) f (2 * q + (2 * r + c) / 2 ^ k) (bitXor (2 * r + c) ((2 * r + c) / 2 ^ k * f))
-      by (yes l) = rw (div-eq-of-lt l, zero-mul, xor-zero-r, add-zero) (division-low p q r c h a l)
-      by (no l) = rw (top-of (2 * r + c) k (omega arith), one-mul) (division-high p q r c h a (omega arith))
-
   -- one step is enough below 2^(k+1)
   pub carry-taken : (p : ℕ) → p / 2 ^ k < 2 → bitXor p (p / 2 ^ k * f) ≡ residue f p
-  carry-taken p h = by (p / 2 ^ k) refl h
-    where
-      by : (u : ℕ) → p / 2 ^ k ≡ u → u < 2 → bitXor p (u * f) ≡ residue f p
-      by zero e l = rw (zero-mul, xor-zero-r) (sym (residue-small p (shr-zero p k e)))
-      by (suc zero) e l =
-          rw one-mul (sym (residue-is p 1 (bitXor p f) (sym (ap (λ x. bitXor x (bitXor p f)) (times-one f) ∙ simp xors), degrees-xor p f k (of-top p k e) d)))
-      by (suc (suc u)) e l = absurd (omega arith)
+  carry-taken p h =
+      let low : p / 2 < 2 ^ k = omega (arith, carry-fits k p h) in
+      let e : 2 * (p / 2) + p % 2 ≡ p = omega arith in
+      sym (residue-step f p ∙ ap (λ r. clocked f r (p % 2)) (residue-small (p / 2) low) ∙ clocked-carry (p / 2) (p % 2) low (omega arith) ∙ ap (λ t. bitXor t (t / 2 ^ k * f)) e)
 
   -- a division goes on with what it has left
   pub division-more : (p q r c e s : ℕ) → c < 2 → DivisionAt k p f q r → DivisionAt k (2 * r + c) f e s → DivisionAt k (2 * p + c) f (2 * q + e) s × (e < 2)

@@ -1,6 +1,5 @@
 -- Laws of the sum of polynomials, `bitXor`, beside those of lib.Bits.
 use mathlib.Core.Path.{_≡_, refl, sym, ap, ap₂, _∙_}
-use mathlib.Core.Logic.{_⊎_, inl, inr}
 use Prim.Native.Nat.{ℕ, zero, suc, _+_, _-_, _*_, _/_, _%_, _^_, _≤_, _<_}
 use native.Mathlib.Nat.{zero-mul, one-mul, div-eq-of-lt}
 use native.Mathlib.Decide.{decLt}
@@ -37,20 +36,6 @@ pub xor-digit : (a c : ℕ) → c < 2 → bitXor (2 * a) c ≡ 2 * a + c
 xor-digit a c h =
     let p : a * 2 ≡ 2 * a = omega arith in
     ap (λ x. bitXor x c) (sym p) ∙ xor-shifted a 1 c h ∙ ap (λ x. x + c) p
-
-pub xor-step : (a b c d : ℕ) → c < 2 → d < 2 → bitXor (2 * a + c) (2 * b + d) ≡ 2 * bitXor a b + bitXor c d
-xor-step a b c d hc hd =
-    let e = xor-block 1 a b c d hc hd in
-    let p : a * 2 + c ≡ 2 * a + c = omega arith in
-    let q : b * 2 + d ≡ 2 * b + d = omega arith in
-    let l : bitXor a b * 2 + bitXor c d ≡ 2 * bitXor a b + bitXor c d = omega arith in
-    sym (ap₂ bitXor p q) ∙ e ∙ l
-
--- a digit is 0 or 1
-pub digit : (c : ℕ) → c < 2 → (c ≡ 0) ⊎ (c ≡ 1)
-digit zero h = inl refl
-digit (suc zero) h = inr refl
-digit (suc (suc c)) h = absurd (omega arith)
 
 pub digit-mul-xor : (c a b : ℕ) → c < 2 → c * bitXor a b ≡ bitXor (c * a) (c * b)
 digit-mul-xor zero a b h = simp zero-mul
@@ -112,3 +97,11 @@ carry-below n x h = by (decLt x (2 ^ n))
     by : Dec (x < 2 ^ n) → x / 2 ^ n < 2
     by (yes l) = omega (arith, div-eq-of-lt l)
     by (no l) = omega (arith, top-of x n (omega arith))
+
+pub carry-fits : (n x : ℕ) → x / 2 ^ n < 2 → x < 2 * 2 ^ n
+carry-fits n x h = by (x / 2 ^ n) refl h
+  where
+    by : (u : ℕ) → x / 2 ^ n ≡ u → u < 2 → x < 2 * 2 ^ n
+    by zero e l = omega (arith, shr-zero x n e)
+    by (suc zero) e l = omega (arith, of-top x n e)
+    by (suc (suc u)) e l = absurd (omega arith)

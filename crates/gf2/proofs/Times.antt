@@ -92,9 +92,6 @@ times-double a b = times-comm (2 * a) b ∙ times-double-r b a ∙ ap (λ x. 2 *
 pub times-odd : (a b : ℕ) → times (2 * a + 1) b ≡ bitXor (times (2 * a) b) b
 times-odd a b = times-more a 1 b (omega arith) ∙ ap₂ bitXor (sym (times-double a b)) (one-mul b)
 
-pub times-digit : (c a : ℕ) → c < 2 → times c a ≡ c * a
-times-digit c a h = times-comm c a ∙ times-digit-r a c h
-
 pub times-assoc : (a b c : ℕ) → times (times a b) c ≡ times a (times b c)
 times-assoc a b c =
     bin-ind (λ n. times (times n b) c ≡ times n (times b c)) (simp times-zero)

@@ -4,7 +4,8 @@ use mathlib.Core.Path.{_≡_}
 use Prim.Native.Nat.{ℕ, zero, suc, _+_, _-_, _*_, _/_, _%_, _^_, _≤_, _<_, min}
 use lib.Bits.{bitXor}
 
--- Goes through the binary digits of a number from the highest down: begins with z, and takes r to g r c at each digit c.
+-- Goes through the binary digits of a number a from the highest down: begins with z, and takes r to g r c at each digit c.
+-- (The number n only bounds the recursion, and a itself is bound enough.)
 unfoldable pub horner-in : {A : Type 0} → A → (A → ℕ → A) → ℕ → ℕ → A
 horner-in z g n zero = z
 horner-in z g zero (suc a) = z

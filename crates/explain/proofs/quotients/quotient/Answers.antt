@@ -2,28 +2,26 @@ use mathlib.Core.Path.{sym, subst}
 use native.Mathlib.Omega.{arith}
 use Rattle.std.proofs.shelf.Lists.{take-all}
 use Rattle.gf2.specs.Responses.{polynomial}
-use Rattle.gf2.proofs.Feedbacks.{irreducible-some}
+use Rattle.gf2.proofs.Feedbacks.{some}
 use Rattle.gf2.proofs.Responses.{no-bits}
 use Rattle.gf2.proofs.Named.{division-none}
 use Rattle.explain.specs.Quotient.{Quotient}
-use Rattle.explain.proofs.Divided.{digit-small, quotient-on, residue-on}
+use Rattle.explain.proofs.Divided.{next-bit}
 use Rattle.explain.proofs.quotients.quotient.Needs as need
 
 pub loop-c-holds : need.loop-c-holds
-loop-c-holds c = let f = c .args .feedback .now in ((omega arith, division-none (f .code) (irreducible-some (f .code) (f .irreducible))), sym (no-bits (f .code)))
+loop-c-holds c = let f = c .args .feedback .now in ((omega arith, division-none (f .code) (some f)), sym (no-bits (f .code)))
 
 pub append-quotient-requires : need.append-quotient-requires
 append-quotient-requires c κs =
     let f = c .args .feedback .now in
-    digit-small (f .code) (irreducible-some (f .code) (f .irreducible)) (c .args .bits .now) (c .loop-c .c-index) (c .loop-c-test .taken) _ _ _ (c .loop-c .quotient) (c .loop-c .inv .0) (c .loop-c .inv .1) (c .divide-digit .ensures .division)
+    next-bit (f .code) (some f) (c .args .bits .now) (c .loop-c .c-index) (c .loop-c-test .taken) (c .loop-c .quotient) _ _ _ (c .loop-c .inv .0) (c .loop-c .inv .1) (c .divide-digit .ensures .division) .0
 
 pub loop-c-again : need.loop-c-again
 loop-c-again c =
     let f = c .args .feedback .now in
-    let bits = c .args .bits .now in
-    let i = c .loop-c .c-index in
-    let some = irreducible-some (f .code) (f .irreducible) in
-    (subst (Quotient (f .code) _) (sym (c .append-quotient .ensures)) (quotient-on (f .code) some bits i (c .loop-c-test .taken) _ _ _ (c .loop-c .quotient) (c .loop-c .inv .0) (c .loop-c .inv .1) (c .divide-digit .ensures .division)), residue-on (f .code) some bits i (c .loop-c-test .taken) _ _ _ (c .loop-c .quotient) (c .loop-c .inv .0) (c .loop-c .inv .1) (c .divide-digit .ensures .division))
+    let next = next-bit (f .code) (some f) (c .args .bits .now) (c .loop-c .c-index) (c .loop-c-test .taken) (c .loop-c .quotient) _ _ _ (c .loop-c .inv .0) (c .loop-c .inv .1) (c .divide-digit .ensures .division) in
+    (subst (Quotient (f .code) _) (sym (c .append-quotient .ensures)) (next .1), next .2)
 
 pub returns : need.returns
 returns c =

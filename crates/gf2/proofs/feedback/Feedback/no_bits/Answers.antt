@@ -1,6 +1,6 @@
 use mathlib.Core.Path.{sym}
 use Rattle.gf2.proofs.Responses.{no-bits, response-laws}
-use Rattle.gf2.proofs.Feedbacks.{irreducible-some}
+use Rattle.gf2.proofs.Feedbacks.{some}
 use Rattle.gf2.proofs.Named.{residue-laws}
 use Rattle.gf2.proofs.feedback.Feedback.no_bits.Needs as need
 
@@ -9,6 +9,6 @@ returns c =
     let s = c .args .self .now in
     record {
       is = sym (no-bits (s .code));
-      laws = residue-laws (s .code) (irreducible-some (s .code) (s .irreducible));
+      laws = residue-laws (s .code) (some s);
       responses = response-laws;
     }
