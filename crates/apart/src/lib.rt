@@ -1,4 +1,6 @@
 // Whether a feedback keeps a fault list apart.
+#![tactic(auto)]
+
 mod answers;
 mod judging;
 mod pairs;

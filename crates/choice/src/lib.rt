@@ -1,4 +1,6 @@
 // The choice of the shortest feedback that keeps a fault list apart.
+#![tactic(auto)]
+
 mod answer;
 mod attempt;
 mod choosing;

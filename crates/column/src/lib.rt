@@ -1,4 +1,6 @@
 // Numbers in columns: right-justified, with spaces before the digits.
+#![tactic(auto)]
+
 ghost use Rattle.std.specs.Prelude.{◌≡◌, ◌++◌, length, replicate, IfOk, Some, string_bytes, decimal};
 ghost use Rattle.column.specs.Column.{column};
 

@@ -1,4 +1,6 @@
 // Worked examples, run against the code.
+#![tactic(auto)]
+
 #[cfg(test)]
 mod choices;
 #[cfg(test)]

@@ -1,4 +1,6 @@
 // From a feedback number and a response, as they are typed, to what is said of them.
+#![tactic(auto)]
+
 mod answer;
 mod arguments;
 mod calls;

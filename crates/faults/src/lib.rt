@@ -1,4 +1,6 @@
 // Fault lists: what one means, what every make of one tells, and two makes.
+#![tactic(auto)]
+
 mod clocks;
 mod fault_record;
 mod list;

@@ -1,4 +1,6 @@
 // Polynomials over GF(2), as codes: the product, irreducibility, and division by the feedback of a register.
+#![tactic(auto)]
+
 mod feedback;
 mod irreducible;
 mod multiply;

@@ -1,4 +1,6 @@
 // The closed list of refusals: everything that the product can decline, with its number, its layer and its places.
+#![tactic(auto)]
+
 mod answers;
 mod layer;
 mod reason;

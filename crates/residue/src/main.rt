@@ -1,4 +1,6 @@
 // residue CODE BITS: divides a response by a feedback and says quotient and remainder.
+#![tactic(auto)]
+
 use anyhow::anyhow;
 use explain::{Answer, explain};
 use std::env;

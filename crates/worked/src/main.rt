@@ -1,4 +1,6 @@
 // worked: the choice on small lists, in both makes, and why each feedback before the chosen one fails.
+#![tactic(auto)]
+
 mod telling;
 
 use faults::{ClockList, FaultRecord, RowList, Span};
