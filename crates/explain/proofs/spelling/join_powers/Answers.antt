@@ -3,7 +3,7 @@ use Rattle.gf2.proofs.Digits.{digit_is}
 use Rattle.explain.specs.Spelling.{exponents}
 use Rattle.explain.proofs.Spelled.{onward, one_there, none_there, all_there}
 use Rattle.explain.proofs.spelling.join_powers.Goals as goal
-use Rattle.explain.proofs.spelling.join_powers.Goals.{then-code-i-eq1+in-ok-text, else-code-i-eq1}
+use Rattle.explain.proofs.spelling.join_powers.Goals.{then-code-i-eq1+in_ok-text, else-code-i-eq1}
 
 pub loop-n-preserved : goal.loop-n-preserved
 loop-n-preserved c =
@@ -13,9 +13,9 @@ loop-n-preserved c =
     let here : 32 - (n + 1) ≡ 31 - n = omega arith in
     let above : suc (31 - n) ≡ 32 - n = omega arith in
     elim c.if-code-i-eq1.branch [
-      | then-code-i-eq1+in-ok-text w ↦
+      | then-code-i-eq1+in_ok-text w ↦
           ap (λ t. onward (string_bytes t) (exponents (32 - (n + 1)) code)) w.text-is
-          ∙ ap₂ (λ b m. onward b (exponents m code)) w.in-ok-text.ensures here
+          ∙ ap₂ (λ b m. onward b (exponents m code)) w.in_ok-text.ensures here
           ∙ one_there before code (31 - n) (sym (digit_is (code / 2 ^ (31 - n))) ∙ w.if-code-i-eq1.true)
           ∙ ap (λ m. onward before (exponents m code)) above
           ∙ c.loop-n.invariant

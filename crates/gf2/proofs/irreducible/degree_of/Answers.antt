@@ -8,7 +8,7 @@ pub returns-in-Some : goal.returns-in-Some
 returns-in-Some c =
     let k = c.in-Some.k in
     let w = c.in-Some.ensures in
-    let e = sym (degree_is c.args.code k (w.power-le, w.next-power-gt)) in
+    let e = sym (degree_is c.args.code k (w.power_le, w.next_power_gt)) in
     record { is = e; few = w.bound; half = half_is_enough (k / 2) c.args.code (ap (λ n. n / 2) e) }
 
 pub returns-in-None : goal.returns-in-None

@@ -8,8 +8,8 @@ use Rattle.gf2.proofs.Remainders.{residue_small}
 use Rattle.gf2.proofs.Shifts.{moved_whole, taken_less, taken_same}
 use Rattle.gf2.proofs.irreducible.remainder.Goals as goal
 
-pub overflow-sub-r : goal.overflow-sub-r
-overflow-sub-r c = pow_le_of c.ilog2-k.result c.ilog2.result (omega (arith, one_shl c.ilog2-k.result 32 (omega arith)))
+pub overflow_sub-r : goal.overflow_sub-r
+overflow_sub-r c = pow_le_of c.ilog2-k.result c.ilog2.result (omega (arith, one_shl c.ilog2-k.result 32 (omega arith)))
 
 pub loop-r-smaller : goal.loop-r-smaller
 loop-r-smaller c =

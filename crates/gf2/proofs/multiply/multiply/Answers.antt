@@ -12,8 +12,8 @@ loop-n-init c =
     let none : c.args.a / 2 ^ 32 ≡ 0 = omega arith in
     (sym (ap (λ n. times n c.args.b) none ∙ times_zero c.args.b), omega arith)
 
-pub overflow-mul-sum : goal.overflow-mul-sum
-overflow-mul-sum c =
+pub overflow_mul-sum : goal.overflow_mul-sum
+overflow_mul-sum c =
     let few : 32 + c.loop-n.n ≤ 63 = omega arith in
     let p : 2 ^ (32 + c.loop-n.n) ≤ 2 ^ 63 = pow_mono few in
     omega arith

@@ -3,8 +3,8 @@ use Rattle.faults.specs.Clocks.{Kept, blank}
 use Rattle.faults.proofs.ClockLists.{kept_all}
 use Rattle.faults.proofs.clocks.ClockList.of.Goals as goal
 
-pub invariant-of-result : goal.invariant-of-result
-invariant-of-result c =
+pub invariant_of-result : goal.invariant_of-result
+invariant_of-result c =
     let n = c.args.n in
     let rs = c.args.records.now in
     let cs = c.args.clocks.now in

@@ -12,8 +12,8 @@ loop-c-init c = record {
   after = λ k l m. omega arith;
 }
 
-pub overflow-sub-sum : goal.overflow-sub-sum
-overflow-sub-sum c = omega (arith, c.requires.0 c.loop-c.c-index c.loop-c-test.true)
+pub overflow_sub-sum : goal.overflow_sub-sum
+overflow_sub-sum c = omega (arith, c.requires.0 c.loop-c.c-index c.loop-c-test.true)
 
 pub loop-c-preserved : goal.loop-c-preserved
 loop-c-preserved c =

@@ -2,8 +2,8 @@ use Rattle.std.proofs.Common.{length}
 use Rattle.faults.proofs.RowLists.{rows_room, classes_all}
 use Rattle.faults.proofs.rows.RowList.of.Goals as goal
 
-pub invariant-of-result : goal.invariant-of-result
-invariant-of-result c =
+pub invariant_of-result : goal.invariant_of-result
+invariant_of-result c =
     let cs = c.args.classes.now in
     let sized = c.requires.sized in (
       sized.some,

@@ -16,8 +16,8 @@ returns-then-i-eq0 c =
     (elim c.then-i-eq0.branch [ then-i-eq0-via-then-i-eq0 w ↦ inl w.if-i-eq0.true | then-i-eq0-via-else-i-eq0+then-self-i w ↦ inr w.if-self-i.true ])) in
     record { error = e; wrong = λ j l. wrong_error (row_list s) c.args.i (marked []) e j l; few = omega arith }
 
-pub slice-bounds-result-end-2 : goal.slice-bounds-result-end-2
-slice-bounds-result-end-2 c =
+pub slice_bounds-result-end-2 : goal.slice_bounds-result-end-2
+slice_bounds-result-end-2 c =
     let s = c.args.self.now in
     let long = length s.rows.now in
     let is = c.row-bytes-stride.ensures in

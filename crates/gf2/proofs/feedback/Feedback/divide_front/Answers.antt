@@ -21,8 +21,8 @@ loop-n-init c =
     let none : 0 ≡ c.args.p / 2 ^ 64 = omega arith in
     (division_of s.stages _ s.code 0 0 d (subst (λ x. DivisionAt s.stages x s.code 0 0) none (division_zero s.stages s.code d)), omega arith, omega arith)
 
-pub overflow-add-quotient : goal.overflow-add-quotient
-overflow-add-quotient c =
+pub overflow_add-quotient : goal.overflow_add-quotient
+overflow_add-quotient c =
     let few : c.loop-n.n + 1 ≤ 64 = omega arith in
     let wide : 2 ^ (c.loop-n.n + 1) ≤ 2 ^ 64 = pow_mono few in
     omega (arith, (turn c.args.self.now c.args.p _ _ _ c.loop-n.invariant.0 c.loop-n.invariant.1 (omega arith)).1)

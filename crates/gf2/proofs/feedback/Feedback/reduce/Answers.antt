@@ -4,8 +4,8 @@ use Rattle.gf2.proofs.Responses.{longer}
 use Rattle.gf2.proofs.Feedbacks.{has_degree}
 use Rattle.gf2.proofs.feedback.Feedback.reduce.Goals as goal
 
-pub overflow-cast-result-then-carry-lt2 : goal.overflow-cast-result-then-carry-lt2
-overflow-cast-result-then-carry-lt2 c =
+pub overflow_cast-result-then-carry-lt2 : goal.overflow_cast-result-then-carry-lt2
+overflow_cast-result-then-carry-lt2 c =
     let s = c.args.self.now in
     let d = has_degree s in
     let few : s.stages ≤ 24 = omega arith in

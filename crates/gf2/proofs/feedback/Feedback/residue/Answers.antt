@@ -9,6 +9,6 @@ returns c =
     let whole = take_all c.loop-c.c-index c.args.bits.now (omega arith) in
     record {
       is = c.loop-c.invariant ∙ ap (λ bits. residue c.args.self.now.code (polynomial bits)) whole;
-      laws = c.no-bits-r.ensures.laws;
-      responses = c.no-bits-r.ensures.responses;
+      laws = c.no_bits-r.ensures.laws;
+      responses = c.no_bits-r.ensures.responses;
     }

@@ -17,13 +17,17 @@ returns-then-code-most c =
     (refl, λ i l. omega (arith, degree_below c.args.code c.args.most (omega (arith, one_degree c.args.code i.0)) l))
 
 pub ilog2-requires : goal.ilog2-requires
-ilog2-requires c = omega (arith, one_degree c.args.code (c.if-not-is-irreducible.ensures.0 refl).0)
+ilog2-requires c = omega (arith, one_degree c.args.code (c.if-not-is_irreducible.ensures.0 refl).0)
 
-pub invariant-of-result : goal.invariant-of-result
-invariant-of-result c =
+pub invariant_of-result : goal.invariant_of-result
+invariant_of-result c =
     let most = small c.args.code c.args.most c.requires (omega arith) c.if-code-most.false in
     let d : Degree c.args.code c.ilog2.result = omega arith in
-    (c.if-not-is-irreducible.ensures.0 refl, (omega arith, (sym (degree_is c.args.code c.ilog2.result d), tt)))
+    record {
+      irreducible = c.if-not-is_irreducible.ensures.0 refl;
+      most = omega arith;
+      counted = sym (degree_is c.args.code c.ilog2.result d);
+    }
 
 pub returns : goal.returns
-returns c = (refl, c.if-not-is-irreducible.ensures.0 refl, small c.args.code c.args.most c.requires (omega arith) c.if-code-most.false)
+returns c = (refl, c.if-not-is_irreducible.ensures.0 refl, small c.args.code c.args.most c.requires (omega arith) c.if-code-most.false)
