@@ -14,9 +14,9 @@ returns g c =
     let laws = residue_laws f.code (some f) in
     let table = c.powers.new.table in
     let word : (i : ℕ) → combined m i table ≡ residues f.code m i = λ i. combined_residue f.code m i table c.requires.1.0 c.powers.ensures (omega arith) in
-    let r = c.no-clash.ensures in
+    let r = c.no_clash.ensures in
     record {
       apart = ((λ t. clash_apart f.code laws m table word (r.apart.0 t)), λ k. r.apart.1 (apart_clash f.code laws m table word k));
-      words = λ t. written_same m (λ i. combined m i table) (residues f.code m) c.args.words.now c.no-clash.new.words word (r.words t);
+      words = λ t. written_same m (λ i. combined m i table) (residues f.code m) c.args.words.now c.no_clash.new.words word (r.words t);
       past = r.past;
     }

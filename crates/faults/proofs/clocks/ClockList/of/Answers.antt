@@ -9,4 +9,12 @@ invariant_of-result c =
     let rs = c.args.records.now in
     let cs = c.args.clocks.now in
     let all : (i : ℕ) → Kept n cs (get_or rs i blank) = kept_all n rs cs c.requires.each in
-    (c.requires.sized.some, (c.requires.sized.most, (c.requires.sized.few, ((λ i. (all i).class), ((λ i. (all i).within), ((λ i. (all i).below), ((λ i. (all i).rising), tt)))))))
+    record {
+      some = c.requires.sized.some;
+      most = c.requires.sized.most;
+      few = c.requires.sized.few;
+      classes = λ i. (all i).class;
+      within = λ i. (all i).within;
+      below = λ i. (all i).below;
+      rising = λ i. (all i).rising;
+    }

@@ -5,16 +5,10 @@ use Rattle.faults.proofs.rows.RowList.of.Goals as goal
 pub invariant_of-result : goal.invariant_of-result
 invariant_of-result c =
     let cs = c.args.classes.now in
-    let sized = c.requires.sized in (
-      sized.some,
-      (
-        sized.most,
-        (
-          sized.few,
-          (
-            classes_all cs (λ k l. (c.requires.each k l).class),
-            (rows_room c.args.n (length cs) (length c.args.rows.now) (λ k l. (c.requires.each k l).within), tt),
-          ),
-        ),
-      ),
-    )
+    let sized = c.requires.sized in record {
+      some = sized.some;
+      most = sized.most;
+      few = sized.few;
+      classed = classes_all cs (λ k l. (c.requires.each k l).class);
+      room = rows_room c.args.n (length cs) (length c.args.rows.now) (λ k l. (c.requires.each k l).within);
+    }

@@ -20,15 +20,15 @@ pub slice_bounds-result-end-2 : goal.slice_bounds-result-end-2
 slice_bounds-result-end-2 c =
     let s = c.args.self.now in
     let long = length s.rows.now in
-    let is = c.row-bytes-stride.ensures in
+    let is = c.row_bytes-stride.ensures in
     subst (λ k. (c.args.i - 1) * k + k ≤ long) (sym is) (row_within s.n c.args.i (length s.classes.now) long (omega arith) (omega arith) s.room)
 
 pub returns : goal.returns
 returns c =
     let s = c.args.self.now in
     let i = c.args.i in
-    let k = c.row-bytes-stride.result in
-    let is : k ≡ stride s.n = c.row-bytes-stride.ensures in
+    let k = c.row_bytes-stride.result in
+    let is : k ≡ stride s.n = c.row_bytes-stride.ensures in
     let start = (i - 1) * k in
     let rest = drop start s.rows.now in
     let bytes : List ℕ = take (start + k - start) rest in

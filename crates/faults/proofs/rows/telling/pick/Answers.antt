@@ -20,8 +20,8 @@ loop-b-preserved c =
     let next : 8 * b + 8 ≡ 8 * (b + 1) = omega arith in
     elim c.if-byte-ne0.branch [
       | then-byte-ne0 v ↦
-          v.sum-is ∙ ap (λ x. bit_xor x v.pick-byte-sum.result) c.loop-b.invariant
-          ∙ v.pick-byte-sum.ensures w (λ k l. marked_byte row b k l) ∙ ap (picked n table w) next
+          v.sum-is ∙ ap (λ x. bit_xor x v.pick_byte-sum.result) c.loop-b.invariant
+          ∙ v.pick_byte-sum.ensures w (λ k l. marked_byte row b k l) ∙ ap (picked n table w) next
       | else-byte-ne0 v ↦
           v.sum-is ∙ c.loop-b.invariant
           ∙ sym (picked_quiet n table w (8 * b) 8 (zero_byte row b v.if-byte-ne0.false)) ∙ ap (picked n table w) next
