@@ -13,7 +13,7 @@ use refusal::Refusal;
 
 // Whether the feedback of this code keeps the list apart; 17 if the code is no feedback's.
 pub fn verdict<L: FaultList>(list: &L, code: u64) -> Result<Verdict, Refusal>
-    ensures { Judges code (means list.now) result }
+    ensures { Judges code (L.means list.now) result }
 {
     let feedback = Feedback::new(code)?;
     let mut table = [0u32; MAX_CLOCKS];
@@ -22,8 +22,8 @@ pub fn verdict<L: FaultList>(list: &L, code: u64) -> Result<Verdict, Refusal>
 
 // The same for a feedback, with a table for the powers of x that the list reaches.
 fn judge<L: FaultList>(list: &L, feedback: Feedback, table: &mut [u32]) -> Verdict
-    requires { (Lawful (means list.now)) × ((means list.now).clocks ≤ length table.old) }
-    ensures { Tells feedback.code (means list.now) result }
+    requires { (Lawful (L.means list.now)) × ((L.means list.now).clocks ≤ length table.old) }
+    ensures { Tells feedback.code (L.means list.now) result }
 {
     feedback.powers(table);
     match first_alike(list, table, false) {
@@ -46,7 +46,7 @@ fn sieve(table: &mut [u32])
 
 // The first two entries of different class with equal errors, the pair that refusal 15 names. Any table would do: it only saves comparing most pairs clock by clock.
 pub fn equal_errors<L: FaultList>(list: &L) -> Option<Pair>
-    ensures { FindsEqual (means list.now) result }
+    ensures { FindsEqual (L.means list.now) result }
 {
     let mut powers = [0u32; MAX_CLOCKS];
     let table = &mut powers[..list.clocks()];

@@ -12,8 +12,8 @@ use faults::{FaultList, MAX_ENTRIES};
 
 // The first two entries of different class that pick the same from a table, and, if that is to be exact, have equal errors.
 pub(crate) fn first_alike<L: FaultList>(list: &L, table: &[u32], exact: bool) -> Option<Pair>
-    ensures equal { T exact → FindsEqual (means list.now) result }
-    ensures confused { (f : ℕ) → ResidueLaws f → Lawful (means list.now) → Powers f table.now → (means list.now).clocks ≤ length table.now → exact ≡ false → FindsConfused f (means list.now) result }
+    ensures equal { T exact → FindsEqual (L.means list.now) result }
+    ensures confused { (f : ℕ) → ResidueLaws f → Lawful (L.means list.now) → Powers f table.now → (L.means list.now).clocks ≤ length table.now → exact ≡ false → FindsConfused f (L.means list.now) result }
 {
     let mut words = [0u32; MAX_ENTRIES];
     combine_all(list, table, &mut words);
@@ -23,7 +23,7 @@ pub(crate) fn first_alike<L: FaultList>(list: &L, table: &[u32], exact: bool) ->
 // What the error of each entry picks from a table.
 fn combine_all<L: FaultList>(list: &L, table: &[u32], words: &mut [u32])
     requires { 201 ≤ length words.old }
-    ensures { Words (means list.now) table.now words.new }
+    ensures { Words (L.means list.now) table.now words.new }
 {
     for i in 0..list.count() + 1 {
         words[i] = list.combine(i, table);
@@ -33,7 +33,7 @@ fn combine_all<L: FaultList>(list: &L, table: &[u32], words: &mut [u32])
 // The first two entries that are alike.
 fn first_pair<L: FaultList>(list: &L, words: &[u32], exact: bool) -> Option<Pair>
     requires { 201 ≤ length words.now }
-    ensures { MatchOption result ((a b : ℕ) → Alike exact (means list.now) words.now a b → ⊥) (λ p. First (Alike exact (means list.now) words.now) p.first p.second) }
+    ensures { MatchOption result ((a b : ℕ) → Alike exact (L.means list.now) words.now a b → ⊥) (λ p. First (Alike exact (L.means list.now) words.now) p.first p.second) }
 {
     let end = list.count() + 1;
     for first in 0..end {
@@ -48,8 +48,8 @@ fn first_pair<L: FaultList>(list: &L, words: &[u32], exact: bool) -> Option<Pair
 
 // Whether two entries are alike: a glance at the words first, and clock by clock only where nothing else is left.
 fn alike<L: FaultList>(list: &L, words: &[u32], exact: bool, a: usize, b: usize) -> bool
-    requires { (a < length (entries (means list.now))) × ((b < length (entries (means list.now))) × (length (entries (means list.now)) ≤ length words.now)) }
-    ensures { Decides result (Alike exact (means list.now) words.now a b) }
+    requires { (a < length (entries (L.means list.now))) × ((b < length (entries (L.means list.now))) × (length (entries (L.means list.now)) ≤ length words.now)) }
+    ensures { Decides result (Alike exact (L.means list.now) words.now a b) }
 {
     if words[a] != words[b] {
         return false;
@@ -65,7 +65,7 @@ fn alike<L: FaultList>(list: &L, words: &[u32], exact: bool, a: usize, b: usize)
 
 // Whether two entries have equal errors: they are wrong at the same clocks.
 fn same_errors<L: FaultList>(list: &L, a: usize, b: usize) -> bool
-    ensures { Decides result ((entry (means list.now) a).error ≡ (entry (means list.now) b).error) }
+    ensures { Decides result ((entry (L.means list.now) a).error ≡ (entry (L.means list.now) b).error) }
 {
     for clock in 0..list.clocks() {
         if list.wrong(a, clock) != list.wrong(b, clock) {

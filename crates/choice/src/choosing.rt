@@ -17,8 +17,8 @@ pub fn choose<L: FaultList>(
     high: u32,
     words: &mut [u32],
 ) -> Result<Choice, Refusal>
-    ensures answer { Chooses (means list.now) low high words.old words.new result }
-    ensures exact { Degrees low high → Room (means list.now) words.old → Exact (means list.now) low high result }
+    ensures answer { Chooses (L.means list.now) low high words.old words.new result }
+    ensures exact { Degrees low high → Room (L.means list.now) words.old → Exact (L.means list.now) low high result }
 {
     if low < 1 || high < low || Feedback::MAX_DEGREE < high {
         return Err(Refusal::DegreesOutOfRange);
@@ -36,9 +36,9 @@ fn choose_among<L: FaultList>(
     high: u32,
     words: &mut [u32],
 ) -> Result<Choice, Refusal>
-    requires { (Degrees low high) × (Room (means list.now) words.old) }
-    ensures answer { Chooses (means list.now) low high words.old words.new result }
-    ensures exact { Exact (means list.now) low high result }
+    requires { (Degrees low high) × (Room (L.means list.now) words.old) }
+    ensures answer { Chooses (L.means list.now) low high words.old words.new result }
+    ensures exact { Exact (L.means list.now) low high result }
 {
     if let Some(pair) = equal_errors(list) {
         return Err(Refusal::EqualErrors {

@@ -18,8 +18,8 @@ pub(crate) fn find<L: FaultList>(
     high: u32,
     words: &mut [u32],
 ) -> Result<Choice, Refusal>
-    requires { (Degrees low high) × ((Room (means list.now) words.old) × (Distinct (means list.now))) }
-    ensures { Chooses (means list.now) low high words.old words.new result }
+    requires { (Degrees low high) × ((Room (L.means list.now) words.old) × (Distinct (L.means list.now))) }
+    ensures { Chooses (L.means list.now) low high words.old words.new result }
 {
     let mut table = [0u32; MAX_CLOCKS];
     match first_apart(list, low, high, &mut table[..list.clocks()], words) {
@@ -39,9 +39,9 @@ fn first_apart<L: FaultList>(
     table: &mut [u32],
     words: &mut [u32],
 ) -> Option<Choice>
-    requires { (Degrees low high) × ((Room (means list.now) words.old) × ((Lawful (means list.now)) × ((means list.now).clocks ≤ length table.old))) }
-    ensures found { MatchOption result (NoneFits (means list.now) low high) (Found (means list.now) low high words.old words.new) }
-    ensures past { PastKept (means list.now) words.old words.new }
+    requires { (Degrees low high) × ((Room (L.means list.now) words.old) × ((Lawful (L.means list.now)) × ((L.means list.now).clocks ≤ length table.old))) }
+    ensures found { MatchOption result (NoneFits (L.means list.now) low high) (Found (L.means list.now) low high words.old words.new) }
+    ensures past { PastKept (L.means list.now) words.old words.new }
 {
     let mut tried = 0;
     for code in first_code(low)..end_code(high) {

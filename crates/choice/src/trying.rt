@@ -16,9 +16,9 @@ pub(crate) fn attempt<L: FaultList>(
     table: &mut [u32],
     words: &mut [u32],
 ) -> Attempt
-    requires { (Room (means list.now) words.old) × ((Lawful (means list.now)) × ((means list.now).clocks ≤ length table.old)) }
-    ensures comes { Comes (means list.now) code words.old words.new result }
-    ensures onward { Attempts (means list.now) code words.old words.new result }
+    requires { (Room (L.means list.now) words.old) × ((Lawful (L.means list.now)) × ((L.means list.now).clocks ≤ length table.old)) }
+    ensures comes { Comes (L.means list.now) code words.old words.new result }
+    ensures onward { Attempts (L.means list.now) code words.old words.new result }
 {
     match Feedback::new(code) {
         Err(_) => Attempt::NoFeedback,
@@ -39,10 +39,10 @@ fn keeps_apart<L: FaultList>(
     table: &mut [u32],
     words: &mut [u32],
 ) -> bool
-    requires { (Room (means list.now) words.old) × ((Lawful (means list.now)) × ((means list.now).clocks ≤ length table.old)) }
-    ensures apart { Decides result (KeepsApart feedback.code (means list.now)) }
-    ensures words { T result → Written (means list.now) (residues feedback.code (means list.now)) words.old words.new }
-    ensures past { PastKept (means list.now) words.old words.new }
+    requires { (Room (L.means list.now) words.old) × ((Lawful (L.means list.now)) × ((L.means list.now).clocks ≤ length table.old)) }
+    ensures apart { Decides result (KeepsApart feedback.code (L.means list.now)) }
+    ensures words { T result → Written (L.means list.now) (residues feedback.code (L.means list.now)) words.old words.new }
+    ensures past { PastKept (L.means list.now) words.old words.new }
 {
     feedback.powers(table);
     no_clash(list, table, words)
@@ -50,10 +50,10 @@ fn keeps_apart<L: FaultList>(
 
 // Whether no two entries of different class pick the same from a table, up to the first that do; if so, the words hold what each picks.
 fn no_clash<L: FaultList>(list: &L, table: &[u32], words: &mut [u32]) -> bool
-    requires { Room (means list.now) words.old }
-    ensures apart { Decides result ((a b : ℕ) → Clashing (means list.now) table.now a b → ⊥) }
-    ensures words { T result → Written (means list.now) (λ i. combined (means list.now) i table.now) words.old words.new }
-    ensures past { PastKept (means list.now) words.old words.new }
+    requires { Room (L.means list.now) words.old }
+    ensures apart { Decides result ((a b : ℕ) → Clashing (L.means list.now) table.now a b → ⊥) }
+    ensures words { T result → Written (L.means list.now) (λ i. combined (L.means list.now) i table.now) words.old words.new }
+    ensures past { PastKept (L.means list.now) words.old words.new }
 {
     for i in 0..list.count() + 1 {
         let word = list.combine(i, table);
@@ -68,7 +68,7 @@ fn no_clash<L: FaultList>(list: &L, table: &[u32], words: &mut [u32]) -> bool
 // Whether an entry before entry i has this word and another class.
 fn meets<L: FaultList>(list: &L, words: &[u32], i: usize, word: u32) -> bool
     requires { i ≤ length words.now }
-    ensures { Decides result ((k : ℕ) × Meets (means list.now) words.now word i k) }
+    ensures { Decides result ((k : ℕ) × Meets (L.means list.now) words.now word i k) }
 {
     let class = list.class(i);
     for j in 0..i {
