@@ -4,14 +4,17 @@
 use anyhow::anyhow;
 use explain::{Answer, explain};
 use std::env;
+use std::process::ExitCode;
 
 // Whatever goes wrong is told on standard error, and the status is 1.
-fn main(rt: HostRuntime) -> anyhow::Result<()> {
-    let outcome = run(&rt);
-    if let Err(problem) = &outcome {
-        let _ = rt.eprintln(format_args!("residue: {problem}"));
+fn main(rt: HostRuntime) -> ExitCode {
+    match run(&rt) {
+        Ok(()) => ExitCode::SUCCESS,
+        Err(problem) => {
+            let _ = eprintln!(rt; "residue: {problem}");
+            ExitCode::FAILURE
+        }
     }
-    outcome
 }
 
 fn run(rt: &HostRuntime) -> anyhow::Result<()> {
