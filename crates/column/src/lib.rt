@@ -50,7 +50,7 @@ fn digits(value: u64) -> usize
     }
 }
 
-// A row of spaces. Std's own padding, as in `{value:>9}`, promises nothing of what it writes, so the spaces are written here.
+// A row of spaces, each written by itself.
 #[derive(Clone, Copy)]
 struct Spaces(usize);
 
