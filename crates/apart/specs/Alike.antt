@@ -1,5 +1,5 @@
 -- How a pair is found: by a word for each entry. Assumes nothing.
-use Rattle.std.specs.Prelude.{◌≡◌, ℕ, ◌<◌, Bool, T, List, length, slice_index, slice_index_or}
+use Rattle.std.specs.Prelude.{◌≡◌, ℕ, ◌<◌, Bool, T, List, length, slice_index}
 use Rattle.faults.specs.Meaning.{Faults, entries, entry, combined}
 use Rattle.apart.specs.Apart.{Differ}
 
@@ -10,5 +10,5 @@ Words m table words = (i : ℕ) → i < length (entries m) → slice_index words
 -- entries of different class with equal words, and, if that is to be exact, with equal errors
 pub record Alike (exact : Bool) (m : Faults) (words : List ℕ) (a b : ℕ) : Type 0 where
   pub differ : Differ m a b
-  pub same : slice_index_or words a 0 ≡ slice_index words b
+  pub same : slice_index words a ≡ slice_index words b
   pub equal : T exact → (entry m a).error ≡ (entry m b).error

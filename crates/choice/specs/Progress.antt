@@ -1,5 +1,5 @@
 -- How far the choice has come, as it goes through the codes. Assumes nothing.
-use Rattle.std.specs.Prelude.{◌≡◌, ℕ, ◌+◌, ◌*◌, ◌^◌, ◌<◌, ◌≤◌, List, slice_index_or}
+use Rattle.std.specs.Prelude.{◌≡◌, ℕ, ◌+◌, ◌*◌, ◌^◌, ◌<◌, ◌≤◌, List, slice_index}
 use Rattle.gf2.specs.Polynomials.{degree}
 use Rattle.gf2.specs.Feedbacks.{IsFeedback}
 use Rattle.faults.specs.Meaning.{Faults, entry, combined}
@@ -52,5 +52,5 @@ pub record Clashing (m : Faults) (table : List ℕ) (a b : ℕ) : Type 0 where
 -- entry k, before entry i, has the same word and another class
 pub record Meets (m : Faults) (words : List ℕ) (word i k : ℕ) : Type 0 where
   pub before : k < i
-  pub same : slice_index_or words k 0 ≡ word
+  pub same : slice_index words k ≡ word
   pub classes : (entry m k).class ≡ (entry m i).class → ⊥

@@ -1,5 +1,5 @@
 -- A list that holds n bits a fault in whole bytes, clock 0 in the highest bit of the first byte. Assumes nothing.
-use Rattle.std.specs.Prelude.{ℕ, ◌+◌, ◌-◌, ◌*◌, ◌/◌, ◌%◌, ◌≤◌, Bool, List, map, length, take, drop, ◌==◌, slice_index, slice_index_or}
+use Rattle.std.specs.Prelude.{ℕ, ◌+◌, ◌-◌, ◌*◌, ◌/◌, ◌%◌, ◌≤◌, Bool, List, map, length, take, drop, ◌==◌, slice_index}
 use Rattle.std.specs.List.{range_with_len}
 use Rattle.gf2.specs.Polynomials.{coefficient}
 use Rattle.gf2.specs.Responses.{response}
@@ -19,7 +19,7 @@ marked bytes j = coefficient (slice_index bytes (j / 8)) (7 - j % 8) == 1
 
 -- the rules for the fault at place i
 pub record RowKept (n : ℕ) (classes rows : List ℕ) (i : ℕ) : Type 0 where
-  pub class : slice_index_or classes i 0 ≤ 99
+  pub class : slice_index classes i ≤ 99
   pub within : (i + 1) * stride n ≤ length rows
 
 abbrev pub rowed : ℕ → List ℕ → List ℕ → ℕ → Fault

@@ -6,7 +6,7 @@ use faults::{FaultList, MAX_ENTRIES};
 use refusal::Refusal;
 
 // The list, and the choice from these degrees.
-pub fn show_list<L: FaultList>(
+pub(crate) fn show_list<L: FaultList>(
     rt: &HostRuntime,
     make: &str,
     list: &L,
@@ -93,7 +93,7 @@ fn show_reasons<L: FaultList>(
     Ok(())
 }
 
-pub fn show_refusal(rt: &HostRuntime, refusal: Refusal) -> anyhow::Result<()> {
+pub(crate) fn show_refusal(rt: &HostRuntime, refusal: Refusal) -> anyhow::Result<()> {
     println!(rt; "  refused: {refusal}")?;
     Ok(())
 }
