@@ -1,5 +1,5 @@
 -- The clocks of a fault, one by one, and the entries of a clock list.
-use Rattle.std.proofs.Common.{◌≡◌, ℕ, zero, suc, ◌+◌, ◌-◌, ◌^◌, ◌<◌, ◌≤◌, Bool, true, false, cond, eqb, ltb, ◌⊎◌, List, [], ◌∷◌, map, length, get_or, sym, refl, ap, ◌∙◌, subst, inl, inr, arith, pow_pos}
+use Rattle.std.proofs.Common.{◌≡◌, ℕ, zero, suc, ◌+◌, ◌-◌, ◌<◌, ◌≤◌, Bool, true, false, cond, eqb, ltb, ◌⊎◌, List, [], ◌∷◌, map, length, get_or, sym, refl, ap, ◌∙◌, subst, inl, inr, arith}
 use native.Mathlib.Decide.{dec_lt}
 use lib.Bits.{bit_xor}
 use Rattle.std.proofs.lemmas.Bool.{eq-eqb, ne_eqb, cases_order}
@@ -7,12 +7,11 @@ use Rattle.std.proofs.lemmas.List.{get_or-map, get_or_past, length-map}
 use Rattle.gf2.specs.Polynomials.{coefficient}
 use Rattle.gf2.specs.Responses.{response}
 use Rattle.gf2.specs.Tables.{combination}
-use Rattle.gf2.proofs.Responses.{response_below}
-use Rattle.faults.specs.Meaning.{Fault, Lawful, good, entry}
-use Rattle.faults.specs.Clocks.{among, blank, part, recorded, by_clocks, Below, Rising, Kept}
+use Rattle.faults.specs.Meaning.{good, entry}
+use Rattle.faults.specs.Clocks.{among, blank, recorded, by_clocks, Below, Rising, Kept}
 use Rattle.faults.specs.Picking.{picked}
 use Rattle.faults.specs.declared.fault_record.FaultRecord.{FaultRecord}
-use Rattle.faults.proofs.Errors.{entry_each, wrong_response, wrong_past, response_quiet, picked_wrong, picked_quiet, picked_all}
+use Rattle.faults.proofs.Errors.{wrong_response, wrong_past, response_quiet, picked_wrong, picked_quiet, picked_all}
 
 -- ---- membership
 
@@ -131,18 +130,6 @@ module _ (n : ℕ) (rs : List FaultRecord) (cs : List ℕ) where
       by : Dec (i < length rs) → get_or (map (recorded n cs) rs) i good ≡ recorded n cs (get_or rs i blank)
       by (yes l) = get_or-map (recorded n cs) rs i blank good l
       by (no l) = get_or_past (map (recorded n cs) rs) i good (rw length-map (omega arith)) ∙ sym (blank_good n cs) ∙ ap (recorded n cs) (sym (get_or_past rs i blank (omega arith)))
-
-  pub clocks_lawful : 1 ≤ n → n ≤ 4096 → length rs ≤ 200 → ((i : ℕ) → (get_or rs i blank).class ≤ 99) → Lawful (by_clocks n rs cs)
-  clocks_lawful some most few classes = record {
-    some = some;
-    most = most;
-    few = rw length-map few;
-    class = each (λ x. x.class ≤ 99) (omega arith) classes;
-    error = each (λ x. x.error < 2 ^ n) (pow_pos n) (λ k. response_below n (among (part cs (get_or rs k blank).clocks)));
-  }
-    where
-      each : (P : Fault → Type 0) → P good → ((k : ℕ) → P (recorded n cs (get_or rs k blank))) → (i : ℕ) → P (entry (by_clocks n rs cs) i)
-      each P none kept = entry_each (by_clocks n rs cs) P none (λ k l. subst P (sym (get_or-map (recorded n cs) rs k blank good (rw length-map at l))) (kept k))
 
   -- the rules hold past the last record too
   pub kept_all : ((k : ℕ) → k < length rs → Kept n cs (get_or rs k blank)) → (i : ℕ) → Kept n cs (get_or rs i blank)

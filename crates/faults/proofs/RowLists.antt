@@ -1,5 +1,5 @@
 -- The entries of a row list.
-use Rattle.std.proofs.Common.{◌≡◌, ℕ, zero, suc, ◌+◌, ◌-◌, ◌*◌, ◌/◌, ◌%◌, ◌^◌, ◌<◌, ◌≤◌, false, eqb, ◌⊎◌, List, [], map, length, get_or, sym, ap, ◌∙◌, subst, ap₂, inl, inr, le_refl, add-mul, one-mul, zero-mul, arith, pow_pos}
+use Rattle.std.proofs.Common.{◌≡◌, ℕ, zero, suc, ◌+◌, ◌-◌, ◌*◌, ◌/◌, ◌%◌, ◌<◌, ◌≤◌, false, eqb, ◌⊎◌, List, [], map, length, get_or, sym, ap, ◌∙◌, subst, ap₂, inl, inr, le_refl, add-mul, one-mul, zero-mul, arith, pow_pos}
 use native.Mathlib.Nat.{div-eq_of_lt}
 use native.Mathlib.Decide.{dec_lt}
 use Rattle.std.specs.List.{range_with_len}
@@ -8,10 +8,9 @@ use Rattle.std.proofs.lemmas.Nat.{mul-le}
 use Rattle.std.proofs.lemmas.List.{get_or_past}
 use Rattle.gf2.specs.Polynomials.{coefficient}
 use Rattle.gf2.specs.Responses.{response}
-use Rattle.gf2.proofs.Responses.{response_below}
-use Rattle.faults.specs.Meaning.{Fault, Lawful, good, entry}
-use Rattle.faults.specs.Rows.{stride, row, marked, rowed, by_rows}
-use Rattle.faults.proofs.Errors.{entry_each, response_quiet}
+use Rattle.faults.specs.Meaning.{good, entry}
+use Rattle.faults.specs.Rows.{stride, marked, rowed, by_rows}
+use Rattle.faults.proofs.Errors.{response_quiet}
 
 zero_coefficient : (i : ℕ) → eqb (coefficient 0 i) 1 ≡ false
 zero_coefficient i = ap (λ x. eqb (x % 2) 1) (div-eq_of_lt (pow_pos i))
@@ -38,18 +37,6 @@ module _ (n : ℕ) (cs rs : List ℕ) where
   row_entry_at (suc i) h l =
       let e : suc i - 1 ≡ i = omega arith in
       get_or-map-range_with_len (rowed n cs rs) 0 (length cs) i i good (omega arith) (omega arith) ∙ ap (rowed n cs rs) (sym e)
-
-  pub rows_lawful : 1 ≤ n → n ≤ 4096 → length cs ≤ 200 → ((i : ℕ) → get_or cs i 0 ≤ 99) → Lawful (by_rows n cs rs)
-  rows_lawful some most few classed = record {
-    some = some;
-    most = most;
-    few = rw length-map-range_with_len few;
-    class = each (λ x. x.class ≤ 99) (omega arith) classed;
-    error = each (λ x. x.error < 2 ^ n) (pow_pos n) (λ k. response_below n (marked (row n rs k)));
-  }
-    where
-      each : (P : Fault → Type 0) → P good → ((k : ℕ) → P (rowed n cs rs k)) → (i : ℕ) → P (entry (by_rows n cs rs) i)
-      each P none kept = entry_each (by_rows n cs rs) P none (λ k l. subst P (sym (get_or-map-range_with_len (rowed n cs rs) 0 (length cs) k k good (rw length-map-range_with_len at l) (omega arith))) (kept k))
 
 -- ---- the memory of the rows
 

@@ -5,3 +5,4 @@ pub mod Clocks
 pub mod Rows
 pub mod ClockLists
 pub mod RowLists
+pub mod Lawful

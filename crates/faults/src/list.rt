@@ -42,4 +42,7 @@ pub trait FaultList {
         }
         sum
     }
+
+    // Every list keeps the rules.
+    ghost lawful: { (s : Self) → Lawful (means s) };
 }

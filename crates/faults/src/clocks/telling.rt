@@ -5,6 +5,7 @@ ghost use Rattle.gf2.specs.Tables.{combination};
 ghost use Rattle.faults.specs.Meaning.{Lawful, entry, wrong};
 ghost use Rattle.faults.specs.Clocks.{Below, Rising, Kept, among, blank, part};
 ghost use Rattle.faults.specs.ClockLists.{clock_list};
+ghost use Rattle.faults.specs.Lawful.{clock_list_lawful};
 
 use super::ClockList;
 use crate::fault_record::{FaultRecord, Span};
@@ -12,6 +13,8 @@ use crate::list::FaultList;
 
 impl<'a> FaultList for ClockList<'a> {
     ghost means = { λ s. clock_list s };
+
+    ghost lawful = { clock_list_lawful };
 
     fn clocks(&self) -> usize {
         self.lawful_length()

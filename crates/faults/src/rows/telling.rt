@@ -7,12 +7,15 @@ ghost use Rattle.faults.specs.Meaning.{Lawful, entry, wrong};
 ghost use Rattle.faults.specs.Picking.{picked};
 ghost use Rattle.faults.specs.Rows.{marked};
 ghost use Rattle.faults.specs.RowLists.{row_list};
+ghost use Rattle.faults.specs.Lawful.{row_list_lawful};
 
 use super::{RowList, row_bytes};
 use crate::list::FaultList;
 
 impl<'a> FaultList for RowList<'a> {
     ghost means = { λ s. row_list s };
+
+    ghost lawful = { row_list_lawful };
 
     fn clocks(&self) -> usize {
         self.lawful_length()
