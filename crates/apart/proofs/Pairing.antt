@@ -1,15 +1,21 @@
 -- Pairs of entries: which pair comes first, and what equal words say.
-use Rattle.std.proofs.Common.{◌≡◌, ℕ, ◌<◌, ◌≤◌, Bool, true, false, T, List, length, get_or, Some, None, Option, sym, ap, ◌∙◌, subst, arith, MatchOption}
+use Rattle.std.proofs.Common.{refl, ◌+◌, ◌≢◌, ◌⊎◌, inl, inr, Decides, ◌≡◌, ℕ, ◌<◌, ◌≤◌, Bool, true, false, List, length, get_or, Some, None, Option, sym, ap, ◌∙◌, subst, arith, MatchOption}
 use lib.Bits.{bit_xor, xor_self}
+use native.Mathlib.Decide.{dec_lt}
+use Rattle.std.proofs.lemmas.Bool.{cases_order}
+use Rattle.std.proofs.lemmas.List.FromFn.{length-range_with_len, get_or-range_with_len}
+use Rattle.std.specs.Bool.{MatchBool}
+use Rattle.std.specs.List.{AllWithin, HoldsAt, range_with_len}
 use Rattle.gf2.specs.Polynomials.{residue}
 use Rattle.gf2.specs.Laws.{ResidueLaws}
-use Rattle.gf2.specs.Tables.{Powers}
 use Rattle.gf2.proofs.Times.{times_zero}
 use Rattle.gf2.proofs.Responses.{response_same}
+use Rattle.gf2.proofs.Decided.{confirmed, denied, refuted}
 use Rattle.faults.specs.Meaning.{Faults, Lawful, entries, entry, wrong, combined}
-use Rattle.faults.proofs.Errors.{error_of, combined_residue}
-use Rattle.apart.specs.Apart.{Differ, Confuses, EqualErrors, First}
-use Rattle.apart.specs.Alike.{Words, Alike}
+use Rattle.faults.proofs.Errors.{error_of}
+use Rattle.apart.specs.Apart.{Differ, Confuses, EqualErrors, Distinct, First}
+use Rattle.apart.specs.Pairs.{Earlier, FirstToPass}
+use Rattle.apart.specs.Residues.{Words, Residues, Alike}
 use Rattle.apart.specs.Verdicts.{FindsEqual, FindsConfused}
 use Rattle.apart.specs.declared.answers.Pair.{Pair}
 
@@ -18,22 +24,74 @@ pub same_error : (m : Faults) (a b n : ℕ) → Lawful m → m.clocks ≤ n → 
 same_error m a b n s l h =
     sym (error_of m a s) ∙ response_same m.clocks (wrong m a) (wrong m b) (λ j k. h j (omega arith)) ∙ error_of m b s
 
--- the same pairs under another name
-first_same : (P Q : ℕ → ℕ → Type 0) → ((a b : ℕ) → P a b → Q a b) → ((a b : ℕ) → Q a b → P a b) → (a b : ℕ) → First P a b → First Q a b
-first_same P Q to from a b p = record { holds = to a b p.holds; least = λ c d q. p.least c d (from c d q) }
+pub same_wrong : (m : Faults) (a b j : ℕ) → (entry m a).error ≡ (entry m b).error → wrong m a j ≡ wrong m b j
+same_wrong m a b j e = simp e
+
+-- `all` over a range, said of the numbers in it
+pub all_in_range : (n : ℕ) (P : ℕ → Type 0) (r : Bool)
+    → MatchBool r (AllWithin P (range_with_len 0 n) 0 (length (range_with_len 0 n))) ((k : ℕ) × (k < length (range_with_len 0 n)) × HoldsAt (λ j. P j → ⊥) (range_with_len 0 n) k)
+    → Decides r ((j : ℕ) → j < n → P j)
+all_in_range n P r h = by r h
+  where
+    item : (j : ℕ) → j < n → get_or (range_with_len 0 n) j 0 ≡ j
+    item j l = let e : 0 + j ≡ j = omega arith in get_or-range_with_len 0 n j 0 l ∙ e
+
+    by : (r : Bool) → MatchBool r (AllWithin P (range_with_len 0 n) 0 (length (range_with_len 0 n))) ((k : ℕ) × (k < length (range_with_len 0 n)) × HoldsAt (λ j. P j → ⊥) (range_with_len 0 n) k)
+        → Decides r ((j : ℕ) → j < n → P j)
+    by true h = confirmed (λ j l. subst P (item j l) (h j 0 (omega arith) (rw length-range_with_len l)))
+    by false h = let l : h.0 < n = rw length-range_with_len at h.1 in refuted (λ all. h.2 0 (subst P (sym (item h.0 l)) (all h.0 l)))
+
+-- The first pair that passes is the first of which P holds, where the test decides P, and P holds of two entries in either order.
+pub first_of : (Answers : ℕ → ℕ → Bool → Type 0) (P : ℕ → ℕ → Type 0) (end : ℕ)
+    → ((a b : ℕ) → P a b → (a < end) × (b < end) × (a ≢ b))
+    → ((a b : ℕ) → P a b → P b a)
+    → ((a b : ℕ) (t : Bool) → a < b → b < end → Answers a b t → Decides t (P a b))
+    → (o : Option Pair) → MatchOption o ((a b : ℕ) → a < b → b < end → Answers a b false) (FirstToPass Answers end)
+    → MatchOption o ((a b : ℕ) → P a b → ⊥) (λ p. First P p.first p.second)
+first_of Answers P end bounds swapped decides None none = λ a b p. either a b p (cases_order a b)
+  where
+    either : (a b : ℕ) → P a b → (a ≡ b) ⊎ ((a < b) ⊎ (b < a)) → ⊥
+    either a b p (inl e) = (bounds a b p).2 e
+    either a b p (inr (inl h)) = denied (decides a b false h (bounds a b p).1 (none a b h (bounds a b p).1)) p
+    either a b p (inr (inr h)) = denied (decides b a false h (bounds a b p).0 (none b a h (bounds a b p).0)) (swapped a b p)
+first_of Answers P end bounds swapped decides (Some x) f = record {
+  holds = (decides x.first x.second true f.order f.within f.passes).0 refl;
+  least = λ c d p. least c d p (cases_order c d);
+}
+  where
+    later : (c d : ℕ) → P c d → c < d → (x.first < c) ⊎ ((x.first ≡ c) × (x.second ≤ d))
+    later c d p h = by (dec_lt x.first c) (dec_lt c x.first) (dec_lt d x.second)
+      where
+        not_earlier : Earlier x c d → ⊥
+        not_earlier e = denied (decides c d false h (bounds c d p).1 (f.earlier c d h (bounds c d p).1 e)) p
+
+        by : Dec (x.first < c) → Dec (c < x.first) → Dec (d < x.second) → (x.first < c) ⊎ ((x.first ≡ c) × (x.second ≤ d))
+        by (yes l) s t = inl l
+        by (no l) (yes e) t = absurd (not_earlier (inl e))
+        by (no l) (no e) (yes k) = absurd (not_earlier (inr (omega arith, k)))
+        by (no l) (no e) (no k) = inr (omega arith, omega arith)
+
+    least : (c d : ℕ) → P c d → (c ≡ d) ⊎ ((c < d) ⊎ (d < c)) → (x.first < c) ⊎ ((x.first ≡ c) × (x.second ≤ d))
+    least c d p (inl e) = absurd ((bounds c d p).2 e)
+    least c d p (inr (inl h)) = later c d p h
+    least c d p (inr (inr h)) = past (later d c (swapped c d p) h)
+      where
+        past : (x.first < d) ⊎ ((x.first ≡ d) × (x.second ≤ c)) → (x.first < c) ⊎ ((x.first ≡ c) × (x.second ≤ d))
+        past (inl l) = inl (omega arith)
+        past (inr e) = inl (omega arith)
 
 -- ---- what the words say
 
--- equal errors have equal words, whatever the table
-errors_alike : (m : Faults) (table ws : List ℕ) → Words m table ws → (a b : ℕ) → EqualErrors m a b → Alike true m ws a b
-errors_alike m table ws r a b p =
-    record { differ = p.differ; same = r a p.differ.first ∙ picks p.equal ∙ sym (r b p.differ.second); equal = λ t. p.equal }
-  where
-    picks : (entry m a).error ≡ (entry m b).error → combined m a table ≡ combined m b table
-    picks e = simp e
+differ_swapped : {m : Faults} {a b : ℕ} → Differ m a b → Differ m b a
+differ_swapped d = record { first = d.second; second = d.first; classes = λ e. d.classes (sym e) }
 
-alike_errors : (m : Faults) (ws : List ℕ) (a b : ℕ) → Alike true m ws a b → EqualErrors m a b
-alike_errors m ws a b p = record { differ = p.differ; equal = p.equal tt }
+entries_differ : {m : Faults} {a b : ℕ} → Differ m a b → a ≢ b
+entries_differ {m} d e = d.classes (ap (λ i. (entry m i).class) e)
+
+-- every polynomial divides the sum of equal errors
+pub equal_confused : (f : ℕ) (m : Faults) (a b : ℕ) → EqualErrors m a b → Confuses f m a b
+equal_confused f m a b p =
+    record { differ = p.differ; divides = (0, times_zero f ∙ sym (ap (λ x. bit_xor x (entry m b).error) p.equal ∙ xor_self (entry m b).error)) }
 
 -- a feedback confuses entries of different class exactly where their errors have equal residues
 module _ (f : ℕ) (laws : ResidueLaws f) (m : Faults) (a b : ℕ) where
@@ -43,40 +101,49 @@ module _ (f : ℕ) (laws : ResidueLaws f) (m : Faults) (a b : ℕ) where
   pub confused_same : Confuses f m a b → residue f (entry m a).error ≡ residue f (entry m b).error
   confused_same p = (laws.equal (entry m a).error (entry m b).error).1 p.divides
 
--- with the powers of x, equal words are equal residues
-module _ (f : ℕ) (laws : ResidueLaws f) (m : Faults) (lawful : Lawful m) (table ws : List ℕ) (powers : Powers f table) (long : m.clocks ≤ length table) (r : Words m table ws) where
-  word : (a : ℕ) → a < length (entries m) → get_or ws a 0 ≡ residue f (entry m a).error
-  word a h = r a h ∙ combined_residue f m a table lawful powers long
+-- so equal residues of entries of different class are what it confuses
+module _ (f : ℕ) (laws : ResidueLaws f) (m : Faults) (ws : List ℕ) (r : Residues f m ws) where
+  alike_confused : (a b : ℕ) → a < length (entries m) → b < length (entries m) → Alike m ws a b → Confuses f m a b
+  alike_confused a b h k p =
+      confused_by f laws m a b (record { first = h; second = k; classes = p.classes }) (sym (r a h) ∙ p.same ∙ r b k)
 
-  alike_confused : (a b : ℕ) → Alike false m ws a b → Confuses f m a b
-  alike_confused a b p =
-      confused_by f laws m a b p.differ (sym (word a p.differ.first) ∙ p.same ∙ word b p.differ.second)
+  confused_alike : (a b : ℕ) → Confuses f m a b → Alike m ws a b
+  confused_alike a b p = record {
+    same = r a p.differ.first ∙ confused_same f laws m a b p ∙ sym (r b p.differ.second);
+    classes = p.differ.classes;
+  }
 
-  confused_alike : (a b : ℕ) → Confuses f m a b → Alike false m ws a b
-  confused_alike a b p =
-      record { differ = p.differ; same = word a p.differ.first ∙ confused_same f laws m a b p ∙ sym (word b p.differ.second); equal = λ t. absurd t }
+  pub finds_confused : (end : ℕ) → end ≡ length (entries m) → (Answers : ℕ → ℕ → Bool → Type 0) → ((a b : ℕ) (t : Bool) → Answers a b t → Decides t (Alike m ws a b))
+      → (o : Option Pair) → MatchOption o ((a b : ℕ) → a < b → b < end → Answers a b false) (FirstToPass Answers end) → FindsConfused f m o
+  finds_confused end is Answers decides o found =
+      first_of Answers (Confuses f m) (length (entries m)) (λ a b p. (p.differ.first, p.differ.second, entries_differ p.differ)) confused_swapped
+      (λ a b t h k x. let d = decides a b t x in ((λ e. alike_confused a b (omega arith) k (d.0 e)), λ p. d.1 (confused_alike a b p)))
+      o (subst (λ n. MatchOption o ((a b : ℕ) → a < b → b < n → Answers a b false) (FirstToPass Answers n)) is found)
+    where
+      confused_swapped : (a b : ℕ) → Confuses f m a b → Confuses f m b a
+      confused_swapped a b p = confused_by f laws m b a (differ_swapped p.differ) (sym (confused_same f laws m a b p))
 
--- every polynomial divides the sum of equal errors
-pub equal_confused : (f : ℕ) (m : Faults) (a b : ℕ) → EqualErrors m a b → Confuses f m a b
-equal_confused f m a b p =
-    record { differ = p.differ; divides = (0, times_zero f ∙ sym (ap (λ x. bit_xor x (entry m b).error) p.equal ∙ xor_self (entry m b).error)) }
+-- two entries of different class with equal words and equal errors
+pub finds_equal : (m : Faults) (table ws : List ℕ) → Words m table ws → (end : ℕ) → end ≡ length (entries m) → (Answers : ℕ → ℕ → Bool → Type 0)
+    → ((a b : ℕ) (t : Bool) → Answers a b t → Decides t (Alike m ws a b × ((entry m a).error ≡ (entry m b).error)))
+    → (o : Option Pair) → MatchOption o ((a b : ℕ) → a < b → b < end → Answers a b false) (FirstToPass Answers end) → FindsEqual m o
+finds_equal m table ws r end is Answers decides o found =
+    answer o (first_of Answers (EqualErrors m) (length (entries m)) (λ a b p. (p.differ.first, p.differ.second, entries_differ p.differ)) swapped decided o
+    (subst (λ n. MatchOption o ((a b : ℕ) → a < b → b < n → Answers a b false) (FirstToPass Answers n)) is found))
+  where
+    swapped : (a b : ℕ) → EqualErrors m a b → EqualErrors m b a
+    swapped a b p = record { differ = differ_swapped p.differ; equal = sym p.equal }
 
--- ---- what is answered
+    -- equal errors pick the same from any table
+    picks : (a b : ℕ) → (entry m a).error ≡ (entry m b).error → combined m a table ≡ combined m b table
+    picks a b e = simp e
 
-pub finds_equal : (m : Faults) (table ws : List ℕ) → Words m table ws → (exact : Bool) → T exact → (r : Option Pair)
-    → MatchOption r ((a b : ℕ) → Alike exact m ws a b → ⊥) (λ p. First (Alike exact m ws) p.first p.second) → FindsEqual m r
-finds_equal m table ws r true t None h = λ a b p. h a b (errors_alike m table ws r a b p)
-finds_equal m table ws r true t (Some p) h = (
-  first_same (Alike true m ws) (EqualErrors m) (alike_errors m ws) (errors_alike m table ws r) p.first p.second h,
-  λ f k. k p.first p.second (equal_confused f m p.first p.second (alike_errors m ws p.first p.second h.holds)),
-)
-finds_equal m table ws r false t q h = absurd t
+    decided : (a b : ℕ) (t : Bool) → a < b → b < length (entries m) → Answers a b t → Decides t (EqualErrors m a b)
+    decided a b t h k x = let d = decides a b t x in (
+      (λ e. let p = d.0 e in record { differ = record { first = omega arith; second = k; classes = p.0.classes }; equal = p.1 }),
+      (λ p. d.1 (record { same = r a p.differ.first ∙ picks a b p.equal ∙ sym (r b p.differ.second); classes = p.differ.classes }, p.equal)),
+    )
 
-pub finds_confused : (m : Faults) (table ws : List ℕ) → Words m table ws → (exact : Bool) → (r : Option Pair)
-    → MatchOption r ((a b : ℕ) → Alike exact m ws a b → ⊥) (λ p. First (Alike exact m ws) p.first p.second)
-    → (f : ℕ) → ResidueLaws f → Lawful m → Powers f table → m.clocks ≤ length table → exact ≡ false → FindsConfused f m r
-finds_confused m table ws r exact None h f laws lawful powers long e =
-    λ a b p. subst (λ x. (a b : ℕ) → Alike x m ws a b → ⊥) e h a b (confused_alike f laws m lawful table ws powers long r a b p)
-finds_confused m table ws r exact (Some p) h f laws lawful powers long e =
-    first_same (Alike false m ws) (Confuses f m) (alike_confused f laws m lawful table ws powers long r) (confused_alike f laws m lawful table ws powers long r) p.first p.second
-    (subst (λ x. First (Alike x m ws) p.first p.second) e h)
+    answer : (o : Option Pair) → MatchOption o (Distinct m) (λ p. First (EqualErrors m) p.first p.second) → FindsEqual m o
+    answer None none = none
+    answer (Some p) f = (f, λ g k. k p.first p.second (equal_confused g m p.first p.second f.holds))

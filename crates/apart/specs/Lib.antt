@@ -1,3 +1,4 @@
 pub mod Apart
-pub mod Alike
+pub mod Pairs
+pub mod Residues
 pub mod Verdicts

@@ -7,17 +7,6 @@ use Rattle.gf2.specs.Feedbacks.{IsFeedback}
 use Rattle.faults.specs.Meaning.{Faults}
 use Rattle.apart.specs.Apart.{Confuses, KeepsApart, EqualErrors, Distinct, First}
 use Rattle.apart.specs.declared.answers.Pair.{Pair}
-use Rattle.apart.specs.declared.answers.Verdict.{Verdict}
-use Rattle.apart.specs.declared.answers.Verdict.TheVariants.{Apart, Confused}
-
--- each case of a verdict on f, and its values
-abbrev pub Tells : ℕ → Faults → Verdict → Type 0
-Tells f m Apart = KeepsApart f m
-Tells f m (Confused pair) = First (Confuses f m) pair.first pair.second
-
--- refused exactly where the code is no feedback's
-abbrev pub Judges : ℕ → Faults → Result Verdict Refusal → Type 0
-Judges code m r = MatchResult r (λ v. IsFeedback code × Tells code m v) (λ e. (e ≡ NotAFeedback) × (IsFeedback code → ⊥))
 
 -- no pair has equal errors; or the first that has, and then no polynomial keeps the list apart
 abbrev pub FindsEqual : Faults → Option Pair → Type 0
@@ -26,3 +15,7 @@ FindsEqual m r = option.MatchOption r (Distinct m) (λ p. First (EqualErrors m) 
 -- f confuses no pair; or the first that it confuses
 abbrev pub FindsConfused : ℕ → Faults → Option Pair → Type 0
 FindsConfused f m r = option.MatchOption r (KeepsApart f m) (λ p. First (Confuses f m) p.first p.second)
+
+-- the verdict on the feedback of a code, refused exactly where the code is no feedback's
+abbrev pub Judges : ℕ → Faults → Result (Option Pair) Refusal → Type 0
+Judges code m r = MatchResult r (λ o. IsFeedback code × FindsConfused code m o) (λ e. (e ≡ NotAFeedback) × (IsFeedback code → ⊥))

@@ -1,55 +1,80 @@
 // Whether a feedback keeps a list apart, and whether any can.
-ghost use Rattle.std.specs.Prelude.{◌≤◌, length};
+ghost use Rattle.std.specs.Prelude.{◌≡◌, ◌<◌, ◌↔◌, IsTrue};
 ghost use Rattle.gf2.specs.Feedbacks.{IsFeedback};
 ghost use Rattle.gf2.specs.Tables.{Powers};
-ghost use Rattle.faults.specs.Meaning.{Lawful};
-ghost use Rattle.apart.specs.Verdicts.{Tells, Judges, FindsEqual};
+ghost use Rattle.faults.specs.Meaning.{entry};
+ghost use Rattle.faults.specs.declared.sizes.TheConstants.{MAX_ENTRIES};
+ghost use Rattle.apart.specs.Residues.{Alike};
+ghost use Rattle.apart.specs.Verdicts.{Judges, FindsEqual, FindsConfused};
 
-use crate::answers::{Pair, Verdict};
-use crate::pairs::first_alike;
-use faults::{FaultList, MAX_CLOCKS};
+use crate::answers::Pair;
+use crate::entry_words::{residues, words};
+use crate::pairs::first_pair;
+use faults::{FaultList, MAX_CLOCKS, MAX_ENTRIES};
 use gf2::Feedback;
 use refusal::Refusal;
 
-// Whether the feedback of this code keeps the list apart; 17 if the code is no feedback's.
-pub fn verdict<L: FaultList>(list: &L, code: u64) -> Result<Verdict, Refusal>
+// The first two entries that the feedback of this code confuses, and none if it keeps the list apart; 17 if the code is no feedback's.
+pub fn verdict<L: FaultList>(list: &L, code: u64) -> Result<Option<Pair>, Refusal>
     ensures { Judges code (L.means list.now) result }
 {
-    let feedback = Feedback::new(code)?;
-    let mut table = [0u32; MAX_CLOCKS];
-    Ok(judge(list, feedback, &mut table[..list.clocks()]))
+    Ok(first_confused(list, Feedback::new(code)?))
 }
 
-// The same for a feedback, with a table for the powers of x that the list reaches.
-fn judge<L: FaultList>(list: &L, feedback: Feedback, table: &mut [u32]) -> Verdict
-    requires { (Lawful (L.means list.now)) × ((L.means list.now).clocks ≤ length table.old) }
-    ensures { Tells feedback.code (L.means list.now) result }
+// The same for a feedback: entries of different class with equal residues.
+fn first_confused<L: FaultList>(list: &L, feedback: Feedback) -> Option<Pair>
+    ensures { FindsConfused feedback.code (L.means list.now) result }
 {
-    feedback.powers(table);
-    match first_alike(list, table, false) {
-        Some(pair) => Verdict::Confused(pair),
-        None => Verdict::Apart,
-    }
+    let words = residues(list, feedback);
+    first_pair(
+        list.count() + 1,
+        |a: usize, b: usize| -> bool
+            requires first { a < MAX_ENTRIES }
+            requires second { b < MAX_ENTRIES }
+            ensures { IsTrue result ↔ Alike (L.means list.entry.now) words a b }
+        { words[a] == words[b] && list.class(a) != list.class(b) },
+    )
 }
 
 // x^24 + x^4 + x^3 + x + 1, a feedback of degree 24: few different errors have equal residues by it.
 const SIEVE: u64 = 16_777_243;
 
 // The powers of x by that feedback.
-fn sieve(table: &mut [u32])
-    ensures { IsFeedback 16777243 → Powers 16777243 table.new }
+fn sieve() -> [u32; MAX_CLOCKS]
+    ensures { IsFeedback 16777243 → Powers 16777243 result }
 {
+    let mut table = [0; MAX_CLOCKS];
     if let Ok(feedback) = Feedback::new(SIEVE) {
-        feedback.powers(table);
+        feedback.powers(&mut table);
     }
+    table
 }
 
 // The first two entries of different class with equal errors, the pair that refusal 15 names. Any table would do: it only saves comparing most pairs clock by clock.
 pub fn equal_errors<L: FaultList>(list: &L) -> Option<Pair>
     ensures { FindsEqual (L.means list.now) result }
 {
-    let mut powers = [0u32; MAX_CLOCKS];
-    let table = &mut powers[..list.clocks()];
-    sieve(table);
-    first_alike(list, table, true)
+    first_equal(list, &sieve())
+}
+
+// The same, with a table: equal errors pick the same from it.
+fn first_equal<L: FaultList>(list: &L, table: &[u32]) -> Option<Pair>
+    ensures { FindsEqual (L.means list.now) result }
+{
+    let words = words(list, table);
+    first_pair(
+        list.count() + 1,
+        |a: usize, b: usize| -> bool
+            requires first { a < MAX_ENTRIES }
+            requires second { b < MAX_ENTRIES }
+            ensures { IsTrue result ↔ (Alike (L.means list.entry.now) words a b × ((entry (L.means list.entry.now) a).error ≡ (entry (L.means list.entry.now) b).error)) }
+        { words[a] == words[b] && list.class(a) != list.class(b) && same_errors(list, a, b) },
+    )
+}
+
+// Whether two entries have equal errors: they are wrong at the same clocks.
+fn same_errors<L: FaultList>(list: &L, a: usize, b: usize) -> bool
+    ensures { IsTrue result ↔ ((entry (L.means list.now) a).error ≡ (entry (L.means list.now) b).error) }
+{
+    (0..list.clocks()).all(|clock| list.wrong(a, clock) == list.wrong(b, clock))
 }

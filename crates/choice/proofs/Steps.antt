@@ -1,17 +1,20 @@
 -- The steps towards the choice.
-use Rattle.std.proofs.Common.{◌≡◌, ℕ, ◌+◌, ◌*◌, ◌^◌, ◌<◌, ◌≤◌, ◌⊎◌, List, sym, refl, ◌∙◌, subst, inl, inr, arith, below_more}
+use Rattle.std.proofs.Common.{◌≢◌, false, Decides, set, get_or-set_other, get_or-set_same, length, take, ap, length-take-le, get_or-take, ◌≡◌, ℕ, ◌+◌, ◌*◌, ◌^◌, ◌<◌, ◌≤◌, ◌⊎◌, List, sym, ◌∙◌, subst, inl, inr, arith, below_more}
 use Rattle.std.proofs.lemmas.Bool.{cases_order}
 use Rattle.gf2.specs.Polynomials.{degree}
 use Rattle.gf2.specs.Laws.{ResidueLaws}
 use Rattle.gf2.specs.Feedbacks.{IsFeedback}
+use Rattle.gf2.specs.declared.feedback.Feedback.{Feedback}
+use Rattle.gf2.proofs.Decided.{denied}
 use Rattle.gf2.proofs.Degrees.{degree_reach, reach_degree, degree_below, below_degree}
 use Rattle.gf2.proofs.Feedbacks.{feedback_some}
-use Rattle.faults.specs.Meaning.{Faults, combined}
+use Rattle.faults.specs.Meaning.{Faults, entry, combined}
 use Rattle.apart.specs.Apart.{KeepsApart}
 use Rattle.apart.proofs.Pairing.{confused_by, confused_same}
 use Rattle.choice.specs.Counting.{Counts}
-use Rattle.choice.specs.Choosing.{Fits, NoneFits, Chosen, Tried, PastKept, Written, residues}
-use Rattle.choice.specs.Progress.{Passed, Progress, Clashing}
+use Rattle.choice.specs.Choosing.{Fits, NoneFits, Chosen, Tried, Picks, residues}
+use Rattle.choice.specs.Progress.{Passed, Progress}
+use Rattle.choice.specs.Trials.{Clashing, Meets, Seen}
 use Rattle.choice.proofs.Counting.{counts_none, counts_same, counts_more}
 
 -- ---- the entries under one feedback
@@ -24,8 +27,31 @@ module _ (f : ℕ) (laws : ResidueLaws f) (m : Faults) (table : List ℕ) (word 
   pub clash_apart : ((a b : ℕ) → Clashing m table a b → ⊥) → KeepsApart f m
   clash_apart k a b p = k a b (record { differ = p.differ; same = word a ∙ confused_same f laws m a b p ∙ sym (word b) })
 
-pub written_same : (m : Faults) (v w : ℕ → ℕ) (before after : List ℕ) → ((i : ℕ) → v i ≡ w i) → Written m v before after → Written m w before after
-written_same m v w before after e p = record { each = λ i h. p.each i h ∙ e i; past = p.past }
+-- one entry more, whose word no entry before has that is of another class
+pub seen_more : (m : Faults) (table ws : List ℕ) (i word class : ℕ) → i < length ws → word ≡ combined m i table → class ≡ (entry m i).class
+    → Decides false ((k : ℕ) × Meets m (take i ws) word class k) → Seen m table ws i → Seen m table (set ws i word) (i + 1)
+seen_more m table ws i word class long is cl none seen = record {
+  picks = below_more _ _ (λ k h. let ne : k ≢ i = omega arith in rw get_or-set_other (seen.picks k h)) (rw get_or-set_same is);
+  apart = λ a b h k p. by a b p (cases_order a i) (cases_order b i) h k;
+}
+  where
+    met : (j : ℕ) → j < i → combined m j table ≡ combined m i table → ((entry m j).class ≡ (entry m i).class → ⊥) → ⊥
+    met j l e n = denied none (
+      j,
+      record {
+        among = let le : i ≤ length ws = omega arith in rw length-take-le l;
+        same = get_or-take i ws j 0 l ∙ seen.picks j l ∙ e ∙ sym is;
+        classes = λ x. n (x ∙ cl);
+      },
+    )
+
+    by : (a b : ℕ) → Clashing m table a b → (a ≡ i) ⊎ ((a < i) ⊎ (i < a)) → (b ≡ i) ⊎ ((b < i) ⊎ (i < b)) → a < i + 1 → b < i + 1 → ⊥
+    by a b p (inl e) (inl f) h k = p.differ.classes (ap (λ x. (entry m x).class) (e ∙ sym f))
+    by a b p (inl e) (inr (inl l)) h k = met b l (sym p.same ∙ ap (λ x. combined m x table) e) (λ x. p.differ.classes (ap (λ x. (entry m x).class) e ∙ sym x))
+    by a b p (inr (inl l)) (inl f) h k = met a l (p.same ∙ ap (λ x. combined m x table) f) (λ x. p.differ.classes (x ∙ ap (λ x. (entry m x).class) (sym f)))
+    by a b p (inr (inl l)) (inr (inl r)) h k = seen.apart a b l r p
+    by a b p (inr (inr l)) t h k = omega arith
+    by a b p s (inr (inr r)) h k = omega arith
 
 -- ---- the feedbacks one by one
 
@@ -56,55 +82,48 @@ passed_tried low code n =
     (λ g p. record { feedback = p.feedback; reaches = p.reaches; below = omega (arith, p.upto) })
 
 module _ (m : Faults) (low high : ℕ) where
-  pub progress_none : (words : List ℕ) → Progress m low high (2 ^ low) 0 words words
+  pub progress_begins : Progress m low high (2 ^ low) 0
   unfolding Progress
-  progress_none words = record {
+  progress_begins = record {
     from = omega arith;
     none = λ f h p. omega (arith, degree_reach f low (feedback_some f p.feedback) p.reaches);
     counted = counts_none (Passed low (2 ^ low)) (λ g p. omega (arith, p.below, degree_reach g low (feedback_some g p.feedback) p.reaches));
-    past = λ i h. refl;
   }
 
-  pub progress_ends : (code tried : ℕ) (before after : List ℕ) → 2 * 2 ^ high ≤ code → Progress m low high code tried before after → NoneFits m low high × PastKept m before after
+  pub progress_ends : (code tried : ℕ) → 2 * 2 ^ high ≤ code → Progress m low high code tried → NoneFits m low high
   unfolding Progress
-  progress_ends code tried before after h p = ((λ f q. p.none f (omega (arith, degree_below f high (feedback_some f q.feedback) q.within)) q), p.past)
+  progress_ends code tried h p f q = p.none f (omega (arith, degree_below f high (feedback_some f q.feedback) q.within)) q
 
-  module _ (code tried : ℕ) (before words after : List ℕ) (p : Progress m low high code tried before words) where
-    pub progress_other : (IsFeedback code → ⊥) → PastKept m words after → Progress m low high (code + 1) tried before after
-    unfolding Progress
-    progress_other no-feedback kept = record {
-      from = omega (arith, p.from);
-      none = below_more _ _ p.none (λ q. no-feedback q.feedback);
-      counted = passed_other low code tried no-feedback p.counted;
-      past = λ i h. kept i h ∙ p.past i h;
-    }
-
-    pub progress_past : PastKept m before words
-    unfolding Progress
-    progress_past = p.past
-
+  module _ (code tried : ℕ) (p : Progress m low high code tried) where
     reaches : IsFeedback code → low ≤ degree code
     unfolding Progress
     reaches i = reach_degree code low (feedback_some code i) p.from
 
-    pub progress_clash : IsFeedback code → (KeepsApart code m → ⊥) → PastKept m words after → Progress m low high (code + 1) (tried + 1) before after
+    pub progress_other : (IsFeedback code → ⊥) → Progress m low high (code + 1) tried
     unfolding Progress
-    progress_clash i clash kept = record {
+    progress_other no_feedback = record {
+      from = omega (arith, p.from);
+      none = below_more _ _ p.none (λ q. no_feedback q.feedback);
+      counted = passed_other low code tried no_feedback p.counted;
+    }
+
+    pub progress_clash : IsFeedback code → (KeepsApart code m → ⊥) → Progress m low high (code + 1) (tried + 1)
+    unfolding Progress
+    progress_clash i clash = record {
       from = omega (arith, p.from);
       none = below_more _ _ p.none (λ q. clash q.apart);
       counted = passed_more low code tried i (reaches i) p.counted;
-      past = λ i h. kept i h ∙ p.past i h;
     }
 
-    pub progress_chosen : IsFeedback code → KeepsApart code m → code < 2 * 2 ^ high → Chosen m low high code × Counts (Tried low code) (tried + 1)
+    pub progress_picks : (f : Feedback) → f.code ≡ code → IsFeedback code → KeepsApart code m → code < 2 * 2 ^ high → Picks m low high (record { feedback = f; tried = tried + 1 })
     unfolding Progress
-    progress_chosen i apart below = (
-      record {
+    progress_picks f is i apart below = record {
+      chosen = subst (Chosen m low high) (sym is) (record {
         fits = record { feedback = i; reaches = reaches i; within = below_degree code high (feedback_some code i) below; apart = apart };
         least = λ g q. by g q (cases_order g code);
-      },
-      passed_tried low code (tried + 1) (passed_more low code tried i (reaches i) p.counted),
-    )
+      });
+      tried = subst (λ c. Counts (Tried low c) (tried + 1)) (sym is) (passed_tried low code (tried + 1) (passed_more low code tried i (reaches i) p.counted));
+    }
       where
         by : (g : ℕ) → Fits m low high g → (g ≡ code) ⊎ ((g < code) ⊎ (code < g)) → code ≤ g
         by g q (inl e) = omega arith

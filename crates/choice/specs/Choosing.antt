@@ -55,7 +55,12 @@ pub record Degrees (low high : ℕ) : Type 0 where
   pub order : low ≤ high
   pub most : high ≤ 24
 
--- the feedback chosen, the number of those tried, and the residues in the words
+-- the feedback chosen, and the number of those tried
+pub record Picks (m : Faults) (low high : ℕ) (c : Choice) : Type 0 where
+  pub chosen : Chosen m low high c.feedback.code
+  pub tried : Counts (Tried low c.feedback.code) c.tried
+
+-- both, and the residues in the words
 pub record Found (m : Faults) (low high : ℕ) (before after : List ℕ) (c : Choice) : Type 0 where
   pub chosen : Chosen m low high c.feedback.code
   pub tried : Counts (Tried low c.feedback.code) c.tried

@@ -2,3 +2,4 @@ pub mod Counting
 pub mod Choosing
 pub mod Exactness
 pub mod Progress
+pub mod Trials

@@ -3,10 +3,10 @@ ghost use Rattle.choice.specs.Choosing.{Degrees, Room, Chooses};
 ghost use Rattle.choice.specs.Exactness.{Exact};
 
 use crate::answer::Choice;
-use crate::finding::find;
-use apart::equal_errors;
+use crate::degrees::DegreeRange;
+use crate::finding::first_apart;
+use apart::{Pair, equal_errors, residues};
 use faults::FaultList;
-use gf2::Feedback;
 use refusal::Refusal;
 
 // The feedback of smallest code, among those of degree low to high that keep the list apart. Each entry's word then holds the residue of its error.
@@ -20,31 +20,35 @@ pub fn choose<L: FaultList>(
     ensures answer { Chooses (L.means list.now) low high words.old words.new result }
     ensures exact { Degrees low high → Room (L.means list.now) words.old → Exact (L.means list.now) low high result }
 {
-    if low < 1 || high < low || Feedback::MAX_DEGREE < high {
-        return Err(Refusal::DegreesOutOfRange);
-    }
+    let degrees = DegreeRange::new(low, high)?;
     if words.len() < list.count() + 1 {
         return Err(Refusal::TooFewWords);
     }
-    choose_among(list, low, high, words)
+    choose_among(list, degrees, words)
 }
 
-// The same, where degrees and room are in order. Equal errors are told first: no feedback keeps those apart.
+// The same, where there is room for the words. Equal errors are told first: no feedback keeps those apart.
 fn choose_among<L: FaultList>(
     list: &L,
-    low: u32,
-    high: u32,
+    degrees: DegreeRange,
     words: &mut [u32],
 ) -> Result<Choice, Refusal>
-    requires { (Degrees low high) × (Room (L.means list.now) words.old) }
-    ensures answer { Chooses (L.means list.now) low high words.old words.new result }
-    ensures exact { Exact (L.means list.now) low high result }
+    requires { Room (L.means list.now) words.old }
+    ensures answer { Chooses (L.means list.now) degrees.low degrees.high words.old words.new result }
+    ensures exact { Exact (L.means list.now) degrees.low degrees.high result }
 {
-    if let Some(pair) = equal_errors(list) {
-        return Err(Refusal::EqualErrors {
-            first: pair.first,
-            second: pair.second,
-        });
+    if let Some(Pair { first, second }) = equal_errors(list) {
+        return Err(Refusal::EqualErrors { first, second });
     }
-    find(list, low, high, words)
+    let words = &mut words[..list.count() + 1];
+    match first_apart(list, degrees) {
+        Some(choice) => {
+            words.copy_from_slice(&residues(list, choice.feedback)[..words.len()]);
+            Ok(choice)
+        }
+        None => {
+            words.fill(0);
+            Err(Refusal::NoneKeepsApart)
+        }
+    }
 }

@@ -2,10 +2,10 @@
 #![tactic(auto)]
 
 mod answer;
-mod attempt;
 mod choosing;
+mod degrees;
 mod finding;
-mod trying;
+mod trial;
 
 pub use answer::Choice;
 pub use choosing::choose;

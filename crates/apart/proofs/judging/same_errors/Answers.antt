@@ -1,0 +1,16 @@
+use Rattle.std.proofs.Common.{◌≡◌, ℕ, rules, refl, tests, arith}
+use Rattle.std.proofs.lemmas.Iterator.{cases_from_all, YieldsList-from_range}
+use Rattle.faults.specs.Meaning.{wrong}
+use Rattle.apart.proofs.Pairing.{all_in_range, same_error, same_wrong}
+use Rattle.apart.proofs.judging.same_errors.Goals as goal
+
+pub returns : goal.returns
+returns g c =
+    let m = g.L.FaultList.means c.args.list.now in
+    let a = c.args.a in
+    let b = c.args.b in
+    let lawful = g.met.L.FaultList.lawful c.args.list.now in
+    let same : ℕ → Type 0 = λ j. wrong m a j ≡ wrong m b j in
+    let all = all_in_range m.clocks same c.all.result
+    (cases_from_all _ _ c.all.result same (λ j. same j → ⊥) c.all.ensures.ran (YieldsList-from_range 0 c.clocks.result m.clocks refl (omega arith)) (λ x q k. search (rules, tests)) (λ x q k. search (rules, tests))) in
+    ((λ t. same_error m a b m.clocks lawful (omega arith) (all.0 t)), λ e. all.1 (λ j l. same_wrong m a b j e))

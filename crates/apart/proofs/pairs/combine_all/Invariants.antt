@@ -1,6 +1,0 @@
-use Rattle.std.proofs.Common.{◌≡◌, ℕ, ◌<◌, get_or}
-use Rattle.faults.specs.Meaning.{combined}
-use Rattle.apart.proofs.pairs.combine_all.Given as goal
-
-abbrev pub invariant-loop-i : goal.invariant-loop-i
-invariant-loop-i g l = (k : ℕ) → k < l.i → get_or l.words k 0 ≡ combined (g.L.FaultList.means l.list) k l.table
