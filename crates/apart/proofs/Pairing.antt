@@ -15,7 +15,7 @@ use Rattle.faults.specs.Meaning.{Faults, Lawful, entries, entry, wrong, combined
 use Rattle.faults.proofs.Errors.{error_of}
 use Rattle.apart.specs.Apart.{Differ, Confuses, EqualErrors, Distinct, First}
 use Rattle.apart.specs.Pairs.{Earlier, FirstToPass}
-use Rattle.apart.specs.Residues.{Words, Residues, Alike}
+use Rattle.apart.specs.Residues.{Words, Residues, Alike, SameError}
 use Rattle.apart.specs.Verdicts.{FindsEqual, FindsConfused}
 use Rattle.apart.specs.declared.answers.Pair.{Pair}
 
@@ -125,7 +125,7 @@ module _ (f : ℕ) (laws : ResidueLaws f) (m : Faults) (ws : List ℕ) (r : Resi
 
 -- two entries of different class with equal words and equal errors
 pub finds_equal : (m : Faults) (table ws : List ℕ) → Words m table ws → (end : ℕ) → end ≡ length (entries m) → (Answers : ℕ → ℕ → Bool → Type 0)
-    → ((a b : ℕ) (t : Bool) → Answers a b t → Decides t (Alike m ws a b × ((entry m a).error ≡ (entry m b).error)))
+    → ((a b : ℕ) (t : Bool) → Answers a b t → Decides t (Alike m ws a b × SameError m a b))
     → (o : Option Pair) → MatchOption o ((a b : ℕ) → a < b → b < end → Answers a b false) (FirstToPass Answers end) → FindsEqual m o
 finds_equal m table ws r end is Answers decides o found =
     answer o (first_of Answers (EqualErrors m) (length (entries m)) (λ a b p. (p.differ.first, p.differ.second, entries_differ p.differ)) swapped decided o

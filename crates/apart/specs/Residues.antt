@@ -15,3 +15,7 @@ Residues f m words = (i : ℕ) → i < length (entries m) → slice_index words 
 pub record Alike (m : Faults) (words : List ℕ) (a b : ℕ) : Type 0 where
   pub same : slice_index words a ≡ slice_index words b
   pub classes : (entry m a).class ≡ (entry m b).class → ⊥
+
+-- two entries have equal errors
+abbrev pub SameError : Faults → ℕ → ℕ → Type 0
+SameError m a b = (entry m a).error ≡ (entry m b).error

@@ -1,10 +1,9 @@
 // Whether a feedback keeps a list apart, and whether any can.
-ghost use Rattle.std.specs.Prelude.{◌≡◌, ◌<◌, ◌↔◌, IsTrue};
+ghost use Rattle.std.specs.Prelude.{◌<◌, ◌↔◌, IsTrue};
 ghost use Rattle.gf2.specs.Feedbacks.{IsFeedback};
 ghost use Rattle.gf2.specs.Tables.{Powers};
-ghost use Rattle.faults.specs.Meaning.{entry};
 ghost use Rattle.faults.specs.declared.sizes.TheConstants.{MAX_ENTRIES};
-ghost use Rattle.apart.specs.Residues.{Alike};
+ghost use Rattle.apart.specs.Residues.{Alike, SameError};
 ghost use Rattle.apart.specs.Verdicts.{Judges, FindsEqual, FindsConfused};
 
 use crate::answers::Pair;
@@ -67,14 +66,14 @@ fn first_equal<L: FaultList>(list: &L, table: &[u32]) -> Option<Pair>
         |a: usize, b: usize| -> bool
             requires first { a < MAX_ENTRIES }
             requires second { b < MAX_ENTRIES }
-            ensures { IsTrue result ↔ (Alike (L.means list.entry.now) words a b × ((entry (L.means list.entry.now) a).error ≡ (entry (L.means list.entry.now) b).error)) }
+            ensures { IsTrue result ↔ (Alike (L.means list.entry.now) words a b × SameError (L.means list.entry.now) a b) }
         { words[a] == words[b] && list.class(a) != list.class(b) && same_errors(list, a, b) },
     )
 }
 
 // Whether two entries have equal errors: they are wrong at the same clocks.
 fn same_errors<L: FaultList>(list: &L, a: usize, b: usize) -> bool
-    ensures { IsTrue result ↔ ((entry (L.means list.now) a).error ≡ (entry (L.means list.now) b).error) }
+    ensures { IsTrue result ↔ SameError (L.means list.now) a b }
 {
     (0..list.clocks()).all(|clock| list.wrong(a, clock) == list.wrong(b, clock))
 }
