@@ -1,4 +1,3 @@
 pub mod Spelled
 pub mod Argued
 pub mod Divided
-pub mod Texts

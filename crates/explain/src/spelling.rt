@@ -1,48 +1,54 @@
 // A polynomial in writing.
-ghost use Rattle.std.specs.Prelude.{◌≡◌, IfOk, string_bytes};
-ghost use Rattle.explain.specs.Spelling.{plus, power, spelled};
+ghost use Rattle.std.specs.Prelude.{◌≡◌, IfOk, Some, string_bytes};
+ghost use Rattle.explain.specs.Spelling.{power, spelled};
 
 use std::alloc::{AllocError, Global};
+use std::fmt;
 
-// The polynomial of this code, as x^4 + x + 1 for 19.
+// The polynomial of this code. It is written as its powers of x, from the highest down: x^4 + x + 1 for 19.
+#[derive(Clone, Copy, Debug, PartialEq, Eq)]
+pub struct Polynomial {
+    pub code: u32,
+}
+
+impl fmt::Display for Polynomial {
+    ghost output = { λ p. Some (spelled p.code) };
+
+    #[tactic(auto, using(crate::proofs::Spelled::power_by_power))]
+    fn fmt<W: fmt::Write>(&self, f: &mut fmt::Formatter<W>) -> fmt::Result {
+        let mut separator = "";
+        for exponent in (0..32).rev() {
+            if (self.code >> exponent) & 1 == 1 {
+                let power = Power { exponent };
+                write!(f, "{separator}{power}")?;
+                separator = " + ";
+            }
+        }
+        Ok(())
+    }
+}
+
+// The polynomial of this code as a text of its own.
 pub fn spell(heap: Global, code: u32) -> Result<String, AllocError>
     ensures { IfOk result (λ t. string_bytes t ≡ spelled code) }
 {
-    join_powers(heap, code)
+    format!(in heap; "{}", Polynomial { code })
 }
 
-// Its powers of x, from the highest down. (The public function above has no proof of its own, so that a change there is reported there.)
-fn join_powers(heap: Global, code: u32) -> Result<String, AllocError>
-    ensures { IfOk result (λ t. string_bytes t ≡ spelled code) }
-{
-    let mut text = String::new(heap);
-    for n in 0..32 {
-        let i = 31 - n;
-        if (code >> i) & 1 == 1 {
-            text = joined(heap, text, i)?;
+// A power of x.
+#[derive(Clone, Copy)]
+struct Power {
+    exponent: u32,
+}
+
+impl fmt::Display for Power {
+    ghost output = { λ p. Some (power p.exponent) };
+
+    fn fmt<W: fmt::Write>(&self, f: &mut fmt::Formatter<W>) -> fmt::Result {
+        match self.exponent {
+            0 => f.write_str("1"),
+            1 => f.write_str("x"),
+            i => write!(f, "x^{i}"),
         }
-    }
-    Ok(text)
-}
-
-// One power more, after a plus where it is not the first.
-fn joined(heap: Global, text: String, i: u32) -> Result<String, AllocError>
-    ensures { IfOk result (λ t. string_bytes t ≡ plus (string_bytes text) i) }
-{
-    let term = power_of(heap, i)?;
-    if text.is_empty() {
-        return Ok(term);
-    }
-    format!(in heap; "{text} + {term}")
-}
-
-// x^i, as it is written.
-fn power_of(heap: Global, i: u32) -> Result<String, AllocError>
-    ensures { IfOk result (λ t. string_bytes t ≡ power i) }
-{
-    match i {
-        0 => String::from_str(heap, "1"),
-        1 => String::from_str(heap, "x"),
-        _ => format!(in heap; "x^{i}"),
     }
 }
