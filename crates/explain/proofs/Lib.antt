@@ -1,3 +1,4 @@
 pub mod Spelled
 pub mod Argued
 pub mod Divided
+pub mod Explained

@@ -1,10 +1,10 @@
 -- A sum of powers, as it is written one power after another.
-use Rattle.std.proofs.Common.{◌≡◌, ℕ, zero, suc, ◌-◌, ◌/◌, ◌^◌, ◌<◌, true, cond, List, [], ◌∷◌, ◌++◌, codes, bit_and, ◌==◌, refl, sym, ap, ◌∙◌, append_assoc, append-nil, subst, rules, arith}
+use Rattle.std.proofs.Common.{◌≡◌, ℕ, zero, suc, ◌-◌, ◌/◌, ◌^◌, ◌<◌, cond, List, [], ◌∷◌, ◌++◌, codes, bit_and, ◌==◌, refl, sym, ap, ◌∙◌, append_assoc, append-nil, subst, rules, arith}
 use denote.Shadow.{shadow}
 use denote.Text.{Utf8}
 use native.Mathlib.Numerals.{unary_clauses}
 use Rattle.std.specs.declared.fmt.Formatter.{Formatter}
-use Rattle.std.specs.Fmt.{IsPlainFormatter, HasWritten}
+use Rattle.std.specs.Fmt.{HasWritten}
 use Rattle.std.proofs.Output.{has_written_append, has_written_of_eq}
 use Rattle.std.proofs.lemmas.Bool.{eq-eqb, ne_eqb}
 use Rattle.gf2.proofs.Digits.{digit_is}

@@ -1,4 +1,5 @@
 pub mod Arguments
 pub mod Spelling
 pub mod Quotient
+pub mod Messages
 pub mod Answers

@@ -1,5 +1,5 @@
 -- The quotient of a response, while it fits 64 bits. Assumes nothing.
-use Rattle.std.specs.Prelude.{ℕ, ◌+◌, ◌*◌, ◌^◌, ◌<◌, ◌≤◌, cond, Some, None, Option, MatchOption, nat_lt}
+use Rattle.std.specs.Prelude.{ℕ, ◌+◌, ◌*◌, ◌^◌, ◌<◌, ◌≤◌, if◌then◌else◌, Some, None, Option, MatchOption, nat_lt}
 use Rattle.gf2.specs.Polynomials.{Division, residue}
 
 -- the quotient of p by f, or none where it is 2^64 or more
@@ -10,4 +10,4 @@ Quotient f p o =
 -- one binary digit more, while 64 bits hold it
 abbrev pub appended : Option ℕ → ℕ → Option ℕ
 appended None d = None
-appended (Some q) d = cond (nat_lt (2 * q + d) (2 ^ 64)) (Some (2 * q + d)) None
+appended (Some q) d = if nat_lt (2 * q + d) (2 ^ 64) then Some (2 * q + d) else None

@@ -1,11 +1,14 @@
 // The arguments, from text.
-ghost use Rattle.std.specs.Prelude.{◌≡◌, Bool, List, IfOk, MatchOption, ◌≢◌};
-ghost use Rattle.explain.specs.Answers.{Read};
+ghost use Rattle.std.specs.Prelude.{◌≡◌, Bool, List, MatchOption, MatchResult, ◌≢◌};
+ghost use Rattle.explain.specs.Answers.{Read, EndsReading};
 ghost use Rattle.explain.specs.Arguments.{Numeral, digit, typed};
+ghost use Rattle.explain.specs.declared.error.ExplainError.TheVariants.{BadBits};
 
-use std::alloc::{AllocError, Global};
+use crate::error::ExplainError;
+use std::alloc::Global;
 
 // A decimal number. One that 64 bits do not hold is as good as the largest that they do: the same is said of both.
+// (The library's `parse` would take a sign too.)
 pub(crate) fn code_of(text: &[u8]) -> Option<u64>
     ensures { MatchOption result (Numeral text.now → ⊥) (Read text.now) }
 {
@@ -14,35 +17,32 @@ pub(crate) fn code_of(text: &[u8]) -> Option<u64>
     }
     let mut code: u64 = 0;
     for c in text {
-        if *c < b'0' || *c > b'9' {
+        if !c.is_ascii_digit() {
             return None;
         }
-        code = code.saturating_mul(10).saturating_add((*c - b'0') as u64);
+        code = code.saturating_mul(10).saturating_add(u64::from(*c - b'0'));
     }
     Some(code)
 }
 
 // A response of zeros and ones.
-pub(crate) fn bits_of(heap: Global, text: &[u8]) -> Result<Option<Vec<bool>>, AllocError>
-    ensures { IfOk result (λ o. MatchOption o ((bits : List Bool) → text.now ≢ typed bits) (λ v. text.now ≡ typed v.items)) }
+pub(crate) fn bits_of(heap: Global, text: &[u8]) -> Result<Vec<bool>, ExplainError>
+    ensures { MatchResult result (λ v. text.now ≡ typed v.items) (EndsReading text.now) }
 {
     let mut bits = Vec::new(heap);
     for c in text {
-        let Some(bit) = bit_of(*c) else {
-            return Ok(None);
-        };
-        bits.push(bit)?;
+        bits.push(bit_of(*c)?)?;
     }
-    Ok(Some(bits))
+    Ok(bits)
 }
 
 // The bit that a character stands for.
-fn bit_of(c: u8) -> Option<bool>
-    ensures { MatchOption result ((b : Bool) → c ≢ digit b) (λ b. c ≡ digit b) }
+fn bit_of(c: u8) -> Result<bool, ExplainError>
+    ensures { MatchResult result (λ b. c ≡ digit b) (λ e. (e ≡ BadBits) × ((b : Bool) → c ≢ digit b)) }
 {
     match c {
-        b'0' => Some(false),
-        b'1' => Some(true),
-        _ => None,
+        b'0' => Ok(false),
+        b'1' => Ok(true),
+        _ => Err(ExplainError::BadBits),
     }
 }

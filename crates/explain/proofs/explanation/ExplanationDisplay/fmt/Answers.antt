@@ -1,0 +1,5 @@
+use Rattle.std.proofs.Output.{has_written_of_eq}
+use Rattle.explain.proofs.explanation.ExplanationDisplay.fmt.Goals as goal
+
+pub returns-clause-writes : goal.returns-clause-writes
+returns-clause-writes g c plain ok = has_written_of_eq g.W.Write.write_str_gives _ _ _ _ (cc) (c.write.ensures.writes plain ok)
