@@ -16,11 +16,13 @@ pub(crate) fn code_of(text: &[u8]) -> Option<u64>
         return None;
     }
     let mut code: u64 = 0;
-    for c in text {
-        if !c.is_ascii_digit() {
+    for &character in text {
+        if !character.is_ascii_digit() {
             return None;
         }
-        code = code.saturating_mul(10).saturating_add(u64::from(*c - b'0'));
+        code = code
+            .saturating_mul(10)
+            .saturating_add(u64::from(character - b'0'));
     }
     Some(code)
 }
@@ -30,17 +32,17 @@ pub(crate) fn bits_of(heap: Global, text: &[u8]) -> Result<Vec<bool>, ExplainErr
     ensures { MatchResult result (λ v. text.now ≡ typed v.items) (EndsReading text.now) }
 {
     let mut bits = Vec::new(heap);
-    for c in text {
-        bits.push(bit_of(*c)?)?;
+    for &character in text {
+        bits.push(bit_of(character)?)?;
     }
     Ok(bits)
 }
 
 // The bit that a character stands for.
-fn bit_of(c: u8) -> Result<bool, ExplainError>
-    ensures { MatchResult result (λ b. c ≡ digit b) (λ e. (e ≡ BadBits) × ((b : Bool) → c ≢ digit b)) }
+fn bit_of(character: u8) -> Result<bool, ExplainError>
+    ensures { MatchResult result (λ b. character ≡ digit b) (λ e. (e ≡ BadBits) × ((b : Bool) → character ≢ digit b)) }
 {
-    match c {
+    match character {
         b'0' => Ok(false),
         b'1' => Ok(true),
         _ => Err(ExplainError::BadBits),

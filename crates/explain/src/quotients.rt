@@ -12,8 +12,8 @@ pub(crate) fn quotient(feedback: &Feedback, bits: &[bool]) -> Option<u64>
 {
     let mut quotient = Some(0);
     let mut remainder: u64 = 0;
-    for c in bits {
-        let (digit, rest) = feedback.divide(2 * remainder + u64::from(*c));
+    for &bit in bits {
+        let (digit, rest) = feedback.divide(2 * remainder + u64::from(bit));
         quotient = append(quotient, digit);
         remainder = rest;
     }
