@@ -1,15 +1,11 @@
 // What is said of a feedback number and a response.
-use explain::{Answer, explain};
+use explain::{ExplainError, explain};
 use std::alloc::Global;
 use std::test::Fail;
 
 // Whether this text is said of the two arguments.
 fn says(heap: Global, code: &[u8], bits: &[u8], text: &str) -> Result<bool, Fail> {
-    match explain(heap, code, bits)? {
-        Answer::Text(said) => Ok(said.as_str() == text),
-        Answer::BadCode => Ok(false),
-        Answer::BadBits => Ok(false),
-    }
+    Ok(explain(heap, code, bits)?.as_str() == text)
 }
 
 #[test]
@@ -54,8 +50,8 @@ fn a_quotient_is_shown_while_it_fits(rt: HostRuntime) -> Result<(), Fail> {
 #[test]
 fn a_bad_argument_is_named(rt: HostRuntime) -> Result<(), Fail> {
     let heap = rt.alloc();
-    assert!(rt; matches!(explain(heap, b"", b"1")?, Answer::BadCode));
-    assert!(rt; matches!(explain(heap, b"+19", b"2")?, Answer::BadCode));
-    assert!(rt; matches!(explain(heap, b"19", b"102")?, Answer::BadBits));
+    assert!(rt; matches!(explain(heap, b"", b"1"), Err(ExplainError::BadCode)));
+    assert!(rt; matches!(explain(heap, b"+19", b"2"), Err(ExplainError::BadCode)));
+    assert!(rt; matches!(explain(heap, b"19", b"102"), Err(ExplainError::BadBits)));
     Ok(())
 }

@@ -1,8 +1,8 @@
 // residue CODE BITS: divides a response by a feedback and says quotient and remainder.
 #![tactic(auto)]
 
-use anyhow::anyhow;
-use explain::{Answer, explain};
+use anyhow::bail;
+use explain::explain;
 use std::env;
 use std::process::ExitCode;
 
@@ -18,17 +18,10 @@ fn main(rt: HostRuntime) -> ExitCode {
 }
 
 fn run(rt: &HostRuntime) -> anyhow::Result<()> {
-    let mut args = env::args(rt)?;
-    let _ = args.next();
+    let mut args = env::args(rt)?.skip(1);
     let (Some(code), Some(bits), None) = (args.next(), args.next(), args.next()) else {
-        return Err(anyhow!("usage: residue CODE BITS"));
+        bail!("usage: residue CODE BITS");
     };
-    match explain(rt.alloc(), code.as_bytes(), bits.as_bytes())? {
-        Answer::Text(text) => {
-            rt.print(text)?;
-            Ok(())
-        }
-        Answer::BadCode => Err(anyhow!("CODE must be a decimal number, as 19 for x^4 + x + 1")),
-        Answer::BadBits => Err(anyhow!("BITS must be zeros and ones, the bit of clock 0 first")),
-    }
+    rt.print(explain(rt.alloc(), code.as_bytes(), bits.as_bytes())?)?;
+    Ok(())
 }
