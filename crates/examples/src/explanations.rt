@@ -1,5 +1,5 @@
 // What is said of a feedback number and a response.
-use explain::{ExplainError, explain};
+use explain::{ExplainError, Polynomial, explain, spell};
 use std::alloc::Global;
 use std::test::Fail;
 
@@ -53,5 +53,41 @@ fn a_bad_argument_is_named(rt: HostRuntime) -> Result<(), Fail> {
     assert!(rt; matches!(explain(heap, b"", b"1"), Err(ExplainError::BadCode)));
     assert!(rt; matches!(explain(heap, b"+19", b"2"), Err(ExplainError::BadCode)));
     assert!(rt; matches!(explain(heap, b"19", b"102"), Err(ExplainError::BadBits)));
+    Ok(())
+}
+
+#[test]
+fn an_error_says_what_is_wrong(rt: HostRuntime) -> Result<(), Fail> {
+    let heap = rt.alloc();
+    for (error, said) in [
+        (
+            ExplainError::BadCode,
+            "CODE must be a decimal number, as 19 for x^4 + x + 1",
+        ),
+        (
+            ExplainError::BadBits,
+            "BITS must be zeros and ones, the bit of clock 0 first",
+        ),
+        (ExplainError::OutOfMemory, "memory allocation failed"),
+    ] {
+        assert!(rt; error.to_string(heap)?.as_str() == said);
+    }
+    Ok(())
+}
+
+#[test]
+fn a_polynomial_is_written_by_its_powers(rt: HostRuntime) -> Result<(), Fail> {
+    let heap = rt.alloc();
+    for (code, written) in [
+        (0, ""),
+        (1, "1"),
+        (2, "x"),
+        (3, "x + 1"),
+        (19, "x^4 + x + 1"),
+        (1 << 31, "x^31"),
+    ] {
+        assert!(rt; Polynomial { code }.to_string(heap)?.as_str() == written);
+        assert!(rt; spell(heap, code)?.as_str() == written);
+    }
     Ok(())
 }
