@@ -1,8 +1,9 @@
 // The choice and the verdict on small lists, in both makes.
 use crate::lists::record;
-use apart::{Pair, Verdict, equal_errors, verdict};
+use apart::{Pair, equal_errors, residues, verdict};
 use choice::choose;
 use faults::{ClockList, FaultList, RowList};
+use gf2::Feedback;
 use refusal::Refusal;
 use std::process::Abort;
 use std::test::Fail;
@@ -35,10 +36,7 @@ fn declines<L: FaultList>(
     left: [u32; 6],
 ) {
     let mut words = [9; 6];
-    match choose(list, low, high, &mut words) {
-        Ok(_) => assert!(rt; false),
-        Err(e) => assert_eq!(rt; e, refusal),
-    }
+    assert_eq!(rt; choose(list, low, high, &mut words), Err(refusal));
     assert_eq!(rt; words, left);
 }
 
@@ -54,24 +52,27 @@ fn three_faults_of_two_classes(rt: HostRuntime) -> Result<(), Fail> {
 }
 
 fn two_classes<L: FaultList>(rt: &impl Abort, list: &L) -> Result<(), Fail> {
+    // by x^2 + x + 1 the errors x, 1 and x^2 + x leave x, 1 and 1
+    let left = residues(list, Feedback::new(7)?);
+    assert!(rt; left[..4] == [0, 2, 1, 1]);
     chooses(rt, list, 1, 6, 11, 4, [0, 2, 1, 6, 9, 9])?;
     chooses(rt, list, 4, 24, 19, 1, [0, 2, 1, 6, 9, 9])?;
     declines(rt, list, 1, 2, Refusal::NoneKeepsApart, [0, 0, 0, 0, 9, 9]);
     assert_eq!(rt;
         verdict(list, 7),
-        Ok(Verdict::Confused(Pair {
+        Ok(Some(Pair {
             first: 2,
             second: 3,
         }))
     );
     assert_eq!(rt;
         verdict(list, 2),
-        Ok(Verdict::Confused(Pair {
+        Ok(Some(Pair {
             first: 0,
             second: 1,
         }))
     );
-    assert_eq!(rt; verdict(list, 11), Ok(Verdict::Apart));
+    assert_eq!(rt; verdict(list, 11), Ok(None));
     for code in [0, 1, 21, 33_554_432, 4_294_967_298] {
         assert_eq!(rt; verdict(list, code), Err(Refusal::NotAFeedback));
     }
@@ -129,7 +130,7 @@ fn one_fault(rt: HostRuntime) -> Result<(), Fail> {
     );
     assert_eq!(rt;
         verdict(&list, 19),
-        Ok(Verdict::Confused(Pair {
+        Ok(Some(Pair {
             first: 0,
             second: 1,
         }))
@@ -168,7 +169,7 @@ fn the_first_pair_is_named(rt: HostRuntime) -> Result<(), Fail> {
     );
     assert_eq!(rt;
         verdict(&rows, 2),
-        Ok(Verdict::Confused(Pair {
+        Ok(Some(Pair {
             first: 0,
             second: 1,
         }))
@@ -183,14 +184,6 @@ fn degrees_and_words_are_checked_first(rt: HostRuntime) -> Result<(), Fail> {
         declines(&rt, &list, low, high, Refusal::DegreesOutOfRange, [9; 6]);
     }
     chooses(&rt, &list, 24, 24, 16_777_243, 1, [0, 9, 9, 9, 9, 9])?;
-    match choose(&list, 1, 24, &mut []) {
-        Ok(_) => {
-            assert!(rt; false);
-            Ok(())
-        },
-        Err(e) => {
-            assert_eq!(rt; e, Refusal::TooFewWords);
-            Ok(())
-        },
-    }
+    assert_eq!(rt; choose(&list, 1, 24, &mut []), Err(Refusal::TooFewWords));
+    Ok(())
 }

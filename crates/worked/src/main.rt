@@ -1,70 +1,44 @@
 // worked: the choice on small lists, in both makes, and why each feedback before the chosen one fails.
 #![tactic(auto)]
 
+mod memory;
 mod telling;
 
-use faults::{ClockList, FaultRecord, RowList, Span};
+use faults::{ClockList, RowList};
+use memory::Memory;
 
-// The same list in the memory of both makes, and the degrees to choose from.
+// Faults of so many clocks, a class and the wrong clocks for each, and the degrees to choose from.
 #[derive(Clone, Copy)]
 struct Case<'a> {
     n: usize,
-    records: &'a [FaultRecord],
-    clocks: &'a [u16],
-    classes: &'a [u8],
-    rows: &'a [u8],
+    faults: &'a [(u8, &'a [u16])],
     low: u32,
     high: u32,
 }
 
+// Three faults of four clocks, in two classes and in one. Then one fault of three clocks: wrong at the last, at the first two, and nowhere.
 fn main(rt: HostRuntime) -> anyhow::Result<()> {
-    three_faults(&rt)?;
-    one_fault(&rt)
-}
-
-// Three faults of four clocks, in two classes and in one.
-fn three_faults(rt: &HostRuntime) -> anyhow::Result<()> {
-    let clocks = [2, 3, 1, 2];
-    let rows = [0b0010_0000, 0b0001_0000, 0b0110_0000];
-    for classes in [[1, 2, 1], [1, 1, 1]] {
-        let [a, b, c] = classes;
-        let records = [record(a, 0, 1), record(b, 1, 1), record(c, 2, 2)];
-        show(
-            rt,
-            Case {
-                n: 4,
-                records: &records,
-                clocks: &clocks,
-                classes: &classes,
-                rows: &rows,
-                low: 1,
-                high: 6,
-            },
-        )?;
-    }
-    Ok(())
-}
-
-// One fault of three clocks: wrong at the last, at the first two, and nowhere.
-fn one_fault(rt: &HostRuntime) -> anyhow::Result<()> {
-    let clocks = [2, 0, 1];
-    for (class, start, len, row, high) in [
-        (1, 0, 1, 0b0010_0000, 2),
-        (1, 1, 2, 0b1100_0000, 1),
-        (1, 1, 2, 0b1100_0000, 2),
-        (1, 0, 0, 0, 2),
-        (0, 0, 0, 0, 2),
+    let two_classes: [(u8, &[u16]); 3] = [(1, &[2]), (2, &[3]), (1, &[1, 2])];
+    let one_class: [(u8, &[u16]); 3] = [(1, &[2]), (1, &[3]), (1, &[1, 2])];
+    let last: [(u8, &[u16]); 1] = [(1, &[2])];
+    let first_two: [(u8, &[u16]); 1] = [(1, &[0, 1])];
+    let nowhere: [(u8, &[u16]); 1] = [(1, &[])];
+    let harmless: [(u8, &[u16]); 1] = [(0, &[])];
+    for (n, faults, low, high) in [
+        (4, &two_classes[..], 1, 6),
+        (4, &one_class[..], 1, 6),
+        (3, &last[..], 1, 2),
+        (3, &first_two[..], 1, 1),
+        (3, &first_two[..], 1, 2),
+        (3, &nowhere[..], 1, 2),
+        (3, &harmless[..], 1, 2),
     ] {
-        let records = [record(class, start, len)];
         show(
-            rt,
+            &rt,
             Case {
-                n: 3,
-                records: &records,
-                clocks: &clocks,
-                classes: &[class],
-                rows: &[row],
-                low: 1,
+                n,
+                faults,
+                low,
                 high,
             },
         )?;
@@ -72,21 +46,14 @@ fn one_fault(rt: &HostRuntime) -> anyhow::Result<()> {
     Ok(())
 }
 
-fn record(class: u8, start: usize, len: usize) -> FaultRecord {
-    FaultRecord {
-        class,
-        clocks: Span { start, len },
-        name: Span { start: 0, len: 0 },
-    }
-}
-
 fn show(rt: &HostRuntime, case: Case) -> anyhow::Result<()> {
+    let memory = Memory::of(rt.alloc(), case.n, case.faults)?;
     let mut by_clocks = ClockList::new();
     let mut by_rows = RowList::new();
-    if let Err(refusal) = by_clocks.fill(case.n, case.records, case.clocks) {
+    if let Err(refusal) = by_clocks.fill(case.n, &memory.records, &memory.clocks) {
         return telling::show_refusal(rt, refusal);
     }
-    if let Err(refusal) = by_rows.fill(case.n, case.classes, case.rows) {
+    if let Err(refusal) = by_rows.fill(case.n, &memory.classes, &memory.rows) {
         return telling::show_refusal(rt, refusal);
     }
     telling::show_list(rt, "clock list", &by_clocks, case.low, case.high)?;

@@ -1,7 +1,7 @@
 // What is printed of a list, whatever its make.
-use apart::{Verdict, verdict};
+use apart::{Pair, verdict};
 use choice::choose;
-use explain::spell;
+use explain::Polynomial;
 use faults::{FaultList, MAX_ENTRIES};
 use refusal::Refusal;
 
@@ -26,14 +26,16 @@ pub(crate) fn show_list<L: FaultList>(
 
 // The clocks at which an entry is wrong, to the end of the line.
 fn show_clocks<L: FaultList>(rt: &HostRuntime, list: &L, i: usize) -> anyhow::Result<()> {
-    let mut found = false;
-    for clock in 0..list.clocks() {
-        if list.wrong(i, clock) {
-            print!(rt; " {clock}")?;
-            found = true;
-        }
+    let mut wrong = (0..list.clocks())
+        .filter(|&clock| list.wrong(i, clock))
+        .peekable();
+    if wrong.peek().is_none() {
+        print!(rt; " no clock")?;
     }
-    println!(rt; "{}", if found { "" } else { " no clock" })?;
+    for clock in wrong {
+        print!(rt; " {clock}")?;
+    }
+    println!(rt; "")?;
     Ok(())
 }
 
@@ -51,7 +53,7 @@ fn show_choice<L: FaultList>(
             show_reasons(rt, list, power(low), code)?;
             println!(rt;
                 "  {code}: {} keeps the classes apart; tried {}",
-                spell(rt.alloc(), code)?,
+                Polynomial { code },
                 choice.tried
             )?;
             Ok(())
@@ -67,10 +69,7 @@ fn show_choice<L: FaultList>(
 
 // The code of x^k, the smallest of the degree k, if 32 bits hold it.
 fn power(k: u32) -> u32 {
-    match 1u32.checked_shl(k) {
-        Some(code) => code,
-        None => u32::MAX,
-    }
+    1u32.checked_shl(k).unwrap_or(u32::MAX)
 }
 
 // Which entries each feedback below the end confuses.
@@ -81,12 +80,10 @@ fn show_reasons<L: FaultList>(
     end: u32,
 ) -> anyhow::Result<()> {
     for code in from..end {
-        if let Ok(Verdict::Confused(pair)) = verdict(list, code as u64) {
+        if let Ok(Some(Pair { first, second })) = verdict(list, u64::from(code)) {
             println!(rt;
-                "  {code}: {} confuses entries {} and {}",
-                spell(rt.alloc(), code)?,
-                pair.first,
-                pair.second
+                "  {code}: {} confuses entries {first} and {second}",
+                Polynomial { code }
             )?;
         }
     }
