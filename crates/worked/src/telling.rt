@@ -4,24 +4,26 @@ use choice::choose;
 use explain::Polynomial;
 use faults::{FaultList, MAX_ENTRIES};
 use refusal::Refusal;
+use std::ops::RangeInclusive;
 
 // The list, and the choice from these degrees.
 pub(crate) fn show_list<L: FaultList>(
     rt: &HostRuntime,
     make: &str,
     list: &L,
-    low: u32,
-    high: u32,
+    degrees: &RangeInclusive<u32>,
 ) -> anyhow::Result<()> {
     println!(rt;
-        "As a {make}: {} clocks, degrees {low} to {high}",
-        list.clocks()
+        "As a {make}: {} clocks, degrees {} to {}",
+        list.clocks(),
+        degrees.start(),
+        degrees.end()
     )?;
     for i in 1..list.count() + 1 {
         print!(rt; "  entry {i}, class {}, wrong at", list.class(i))?;
         show_clocks(rt, list, i)?;
     }
-    show_choice(rt, list, low, high)
+    show_choice(rt, list, degrees)
 }
 
 // The clocks at which an entry is wrong, to the end of the line.
@@ -43,10 +45,10 @@ fn show_clocks<L: FaultList>(rt: &HostRuntime, list: &L, i: usize) -> anyhow::Re
 fn show_choice<L: FaultList>(
     rt: &HostRuntime,
     list: &L,
-    low: u32,
-    high: u32,
+    degrees: &RangeInclusive<u32>,
 ) -> anyhow::Result<()> {
-    let mut words = [0u32; MAX_ENTRIES];
+    let (low, high) = (*degrees.start(), *degrees.end());
+    let mut words = [0; MAX_ENTRIES];
     match choose(list, low, high, &mut words) {
         Ok(choice) => {
             let code = choice.feedback.code();
