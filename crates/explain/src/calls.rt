@@ -15,7 +15,7 @@ pub fn explain(heap: Global, code: &[u8], bits: &[u8]) -> Result<String, Explain
 {
     let number = code_of(code).ok_or(ExplainError::BadCode)?;
     let response = bits_of(heap, bits)?;
-    Ok(say(heap, number, response.as_slice())?)
+    Ok(say(heap, number, &response)?)
 }
 
 // Four lines for a feedback, and the refusal's for another number.

@@ -5,6 +5,7 @@ use Rattle.explain.proofs.calls.say.Goals as goal
 
 pub returns-in-Ok : goal.returns-in-Ok
 returns-in-Ok c =
+    let new = c.of.ensures in
     IfOk-weaker c.format.result _ _
-    (λ t e text is. (c.args.bits.now, is, rw (← c.in-Ok.ensures.0) (explains c.of.result c.in-Ok.feedback.code c.args.bits.now (string_bytes t) (rw c.in-Ok.ensures.0 c.in-Ok.ensures.1) (cc) c.of.ensures.length c.of.ensures.quotient c.of.ensures.remainder e)))
+    (λ t says text is. (c.args.bits.now, is, explains c.in-Ok.feedback c.of.result c.args.code c.args.bits.now (string_bytes t) c.in-Ok.ensures new.feedback new.length new.quotient new.remainder says))
     c.format.ensures.ok
