@@ -11,7 +11,7 @@ pub(crate) fn quotient(feedback: &Feedback, bits: &[bool]) -> Option<u64>
     ensures { Quotient feedback.now.code (polynomial bits.now) result }
 {
     let mut quotient = Some(0);
-    let mut remainder: u64 = 0;
+    let mut remainder = 0;
     for &bit in bits {
         let (digit, rest) = feedback.divide(2 * remainder + u64::from(bit));
         quotient = append(quotient, digit);
