@@ -1,7 +1,7 @@
 -- Degrees: of a product, of a code, and how they order codes.
 use Rattle.std.proofs.Common.{◌≡◌, ℕ, zero, suc, ◌+◌, ◌-◌, ◌*◌, ◌/◌, ◌%◌, ◌^◌, ◌<◌, ◌≤◌, sym, refl, ap, ◌∙◌, subst, suc-add, zero-add, arith, pow_pos, pow_mono}
-use native.Mathlib.Decide.{dec_lt}
-use lib.Arith.{bin_ind}
+use Rattle.std.proofs.Math.Decide.{dec_lt}
+use Rattle.std.proofs.Math.Arith.{bin_ind}
 use Rattle.gf2.specs.Polynomials.{horner, times, degree}
 use Rattle.gf2.proofs.Horner.{horner_suc}
 use Rattle.gf2.proofs.Times.{times_step, times_one}

@@ -4,7 +4,7 @@ use Rattle.gf2.specs.Polynomials.{degree, Irreducible}
 use Rattle.gf2.specs.Feedbacks.{IsFeedback}
 use Rattle.gf2.specs.declared.feedback.Feedback.{Feedback}
 use Rattle.gf2.proofs.Sums.{Degree}
-use Rattle.gf2.proofs.Degrees.{one_degree, degree_at}
+use Rattle.gf2.proofs.Degrees.{one_degree, degree_at, degree_is, degree_below, below_degree}
 
 irreducible_some : (f : ℕ) → Irreducible f → 0 < f
 irreducible_some f i = omega (arith, one_degree f i.0)
@@ -16,8 +16,18 @@ feedback_some f i = irreducible_some f i.irreducible
 pub is_feedback : (f : ℕ) → Irreducible f → degree f ≤ 24 → IsFeedback f
 is_feedback f i h = record { irreducible = i; most = h }
 
+-- by the bound on its code
+pub feedback_below : (f : ℕ) → IsFeedback f → f < 33554432
+feedback_below f i = omega (arith, degree_below f 24 (feedback_some f i) i.most)
+
+pub feedback_made : (f : ℕ) → Irreducible f → f < 33554432 → IsFeedback f
+feedback_made f i h = is_feedback f i (below_degree f 24 (irreducible_some f i) (omega arith))
+
+-- for `Feedback::new`
+pub ruleset making = (feedback_made, feedback_below, one_degree, degree_is)
+
 pub some : (f : Feedback) → 0 < f.code
-some f = irreducible_some f.code f.irreducible
+some f = feedback_some f.code f.lawful
 
 pub has_degree : (f : Feedback) → Degree f.code f.stages
 has_degree f = subst (Degree f.code) (sym f.counted) (degree_at f.code (some f))

@@ -1,7 +1,7 @@
 -- The recursion over binary digits, by its one step.
 use Rattle.std.proofs.Common.{◌≡◌, ℕ, zero, suc, ◌/◌, ◌%◌, ◌≤◌, sym, refl, ap, ◌∙◌, le_refl, not-suc-le-zero}
-use native.Mathlib.Decide.{le_ind}
-use lib.Arith.{half_le}
+use Rattle.std.proofs.Math.Decide.{le_ind}
+use Rattle.std.proofs.Math.Arith.{half_le}
 use Rattle.gf2.specs.Polynomials.{horner, horner_in}
 
 module _ {A : Type 0} (z : A) (g : A → ℕ → A) where

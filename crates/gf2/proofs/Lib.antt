@@ -8,7 +8,9 @@ pub mod Feedbacks
 pub mod Shifts
 pub mod Decided
 pub mod Trials
+pub mod Ranges
 pub mod Responses
 pub mod Tables
 pub mod Named
+pub mod Steps
 mod Examples

@@ -1,9 +1,9 @@
 -- Quotient and remainder are unique, `residue` is the remainder, and what it has to do with `Divides`.
 use Rattle.std.proofs.Common.{◌≡◌, ℕ, zero, suc, ◌+◌, ◌*◌, ◌/◌, ◌%◌, ◌^◌, ◌<◌, ◌≤◌, ◌↔◌, sym, refl, ap, ◌∙◌, subst, ap₂, add-zero, one-mul, zero-mul, arith, pow_pos}
-use native.Mathlib.Nat.{div-eq_of_lt, min-eq_left, min-eq_right, zero-min}
-use native.Mathlib.Decide.{dec_lt}
-use lib.Arith.{bin_ind}
-use lib.Bits.{bit_xor, xor_assoc, xor_comm, xor_self, xor_zero_r, xor_lt}
+use Rattle.std.proofs.Math.Nat.{div-eq_of_lt, min-eq_left, min-eq_right, zero-min}
+use Rattle.std.proofs.Math.Decide.{dec_lt}
+use Rattle.std.proofs.Math.Arith.{bin_ind}
+use Rattle.std.specs.Int.Bits.{bit_xor, xor_assoc, xor_comm, xor_self, xor_zero_r, xor_lt}
 use Rattle.gf2.specs.Polynomials.{times, Divides, Division, clocked, residue}
 use Rattle.gf2.proofs.Sums.{Degree, carry_below, carry_fits, top_of, xors, xor_eq_zero, xor_move, double_xor, xor_digit, xor_swap, degree_xor, degrees_xor}
 use Rattle.gf2.proofs.Horner.{horner_step}

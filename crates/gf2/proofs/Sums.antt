@@ -1,9 +1,9 @@
 -- Laws of the sum of polynomials, `bit_xor`, beside those of lib.Bits.
 use Rattle.std.proofs.Common.{◌≡◌, ℕ, zero, suc, ◌+◌, ◌-◌, ◌*◌, ◌/◌, ◌%◌, ◌^◌, ◌<◌, ◌≤◌, sym, refl, ap, ◌∙◌, ap₂, one-mul, zero-mul, arith, pow_pos}
-use native.Mathlib.Nat.{div-eq_of_lt}
-use native.Mathlib.Decide.{dec_lt}
-use lib.Bits.{bit_xor, xor_block, xor_shifted, xor_assoc, xor_comm, xor_self, xor_zero_r, xor_shr}
-use lib.Arith.{digits_div}
+use Rattle.std.proofs.Math.Nat.{div-eq_of_lt}
+use Rattle.std.proofs.Math.Decide.{dec_lt}
+use Rattle.std.specs.Int.Bits.{bit_xor, xor_block, xor_shifted, xor_assoc, xor_comm, xor_self, xor_zero_r, xor_shr}
+use Rattle.std.proofs.Math.Arith.{digits_div}
 use Rattle.std.proofs.lemmas.Nat.{shr_split, mod_below}
 
 pub xor_left_comm : (a b c : ℕ) → bit_xor a (bit_xor b c) ≡ bit_xor b (bit_xor a c)

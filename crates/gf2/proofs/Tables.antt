@@ -1,6 +1,6 @@
 -- What a polynomial picks from a table: linear in the polynomial, and a residue where the table has the powers of x.
 use Rattle.std.proofs.Common.{◌≡◌, ℕ, zero, suc, ◌+◌, ◌*◌, ◌/◌, ◌%◌, ◌^◌, ◌<◌, List, [], ◌∷◌, length, get_or, sym, refl, ap, ◌∙◌, ap₂, mul_assoc, add-mul, one-mul, zero-mul, arith, pow_pos}
-use lib.Bits.{bit_xor, xor_comm, xor_mod, xor_shr, xor_shifted}
+use Rattle.std.specs.Int.Bits.{bit_xor, xor_comm, xor_mod, xor_shr, xor_shifted}
 use Rattle.gf2.specs.Polynomials.{residue}
 use Rattle.gf2.specs.Tables.{combination, Powers}
 use Rattle.gf2.proofs.Sums.{xors, xor_swap, digit_xor_mul, Degree}

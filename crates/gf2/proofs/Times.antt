@@ -1,7 +1,7 @@
 -- The laws of the product.
 use Rattle.std.proofs.Common.{◌≡◌, ℕ, zero, suc, ◌+◌, ◌*◌, ◌/◌, ◌%◌, ◌^◌, ◌<◌, sym, refl, ap, ◌∙◌, ap₂, one-mul, pow-suc, mul-zero, zero-mul, mul-one, arith}
-use lib.Arith.{bin_ind}
-use lib.Bits.{bit_xor, xor_shr, xor_mod}
+use Rattle.std.proofs.Math.Arith.{bin_ind}
+use Rattle.std.specs.Int.Bits.{bit_xor, xor_shr, xor_mod}
 use Rattle.gf2.specs.Polynomials.{times}
 use Rattle.gf2.proofs.Horner.{horner_step}
 use Rattle.gf2.proofs.Sums.{double_xor, xor_digit, digit_mul_xor, digit_xor_mul, xor_swap}

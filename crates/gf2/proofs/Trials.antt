@@ -1,6 +1,6 @@
 -- Trial division: up to half the degree is enough, and of the even divisors x is.
-use Rattle.std.proofs.Common.{◌≡◌, ℕ, zero, suc, ◌+◌, ◌*◌, ◌/◌, ◌%◌, ◌^◌, ◌<◌, ◌≤◌, ◌↔◌, sym, refl, ap, ◌∙◌, subst, arith, pow_pos}
-use native.Mathlib.Decide.{dec_lt}
+use Rattle.std.proofs.Common.{◌≡◌, ℕ, zero, suc, ◌+◌, ◌*◌, ◌/◌, ◌%◌, ◌^◌, ◌<◌, ◌≤◌, ◌↔◌, Bool, Decides, sym, refl, ap, ◌∙◌, subst, arith, pow_pos}
+use Rattle.std.proofs.Math.Decide.{dec_lt}
 use Rattle.gf2.specs.Polynomials.{times, degree, Divides, Reducible, Irreducible, residue}
 use Rattle.gf2.specs.Trial.{Tried}
 use Rattle.gf2.proofs.Times.{times_zero, times_zero_r, times_one_r, times_double_r, times_comm}
@@ -63,3 +63,10 @@ all_tried m f two odd none = (degree_one f two, λ (g, one, most, d). by g (one_
         let s : g ≡ 2 * (g / 2) + 1 = omega arith in
         none (g / 2) (omega (arith, degree_below g m (omega arith) most)) (omega arith) (subst (λ x. Divides x f) s d)
     by g two one most d (suc (suc c)) e = omega arith
+
+-- a test of the odd divisors is one of all
+pub odd_decides : (m f : ℕ) (r : Bool) → 2 ≤ f → (1 ≤ m → 0 < f % 2) → Decides r ((h : ℕ) → 1 ≤ h → h < 2 ^ m → residue (2 * h + 1) f ≡ 0 → ⊥) → Decides r (Tried m f)
+odd_decides m f r two odd told = (
+  λ yes. all_tried m f two odd (λ h below one. odd_none f h (told.0 yes h one below)),
+  λ t. told.1 (λ h one below e. odd_tried m f h one below e t),
+)

@@ -1,7 +1,7 @@
 // The feedback polynomial of a register.
 ghost use Rattle.std.specs.Prelude.{◌≡◌, ◌≤◌, MatchResult};
 ghost use Rattle.refusal.specs.declared.reason.Refusal.TheVariants.{NotAFeedback};
-ghost use Rattle.gf2.specs.Polynomials.{degree, Irreducible};
+ghost use Rattle.gf2.specs.Polynomials.{degree};
 ghost use Rattle.gf2.specs.Feedbacks.{IsFeedback};
 
 mod division;
@@ -14,19 +14,25 @@ use refusal::Refusal;
 pub struct Feedback {
     code: u32,
     stages: u32,
-    ghost irreducible: { Irreducible code },
-    ghost most: { degree code ≤ 24 },
+    ghost lawful: { IsFeedback code },
     ghost counted: { stages ≡ degree code },
 }
 
 impl Feedback {
     pub const MAX_DEGREE: u32 = 24;
 
-    // The feedback of this code, if it is one's.
+    // The feedback of this code, if it is one's. `new` alone makes one, as for std's `NonZero`: `TryFrom<u64>` would say the same again.
+    #[tactic(auto, using(crate::proofs::Feedbacks::making))]
     pub fn new(code: u64) -> Result<Feedback, Refusal>
         ensures { MatchResult result (λ f. (f.code ≡ code) × IsFeedback code) (λ e. (e ≡ NotAFeedback) × (IsFeedback code → ⊥)) }
     {
-        Feedback::up_to(Feedback::MAX_DEGREE, code)
+        match u32::try_from(code) {
+            Ok(code) if code < 2 << Self::MAX_DEGREE && is_irreducible(code) => Ok(Feedback {
+                code,
+                stages: code.ilog2(),
+            }),
+            _ => Err(Refusal::NotAFeedback),
+        }
     }
 
     pub fn code(&self) -> u32
@@ -43,23 +49,5 @@ impl Feedback {
         ensures most { result ≤ 24 }
     {
         self.stages
-    }
-
-    // The irreducible polynomial of this code, if it is one's and of degree `most` at most.
-    fn up_to(most: u32, code: u64) -> Result<Feedback, Refusal>
-        requires { most ≤ 24 }
-        ensures { MatchResult result (λ f. (f.code ≡ code) × Irreducible code × (degree code ≤ most)) (λ e. (e ≡ NotAFeedback) × (Irreducible code → degree code ≤ most → ⊥)) }
-    {
-        if code >= 2 << most {
-            return Err(Refusal::NotAFeedback);
-        }
-        let code = code as u32;
-        if !is_irreducible(code) {
-            return Err(Refusal::NotAFeedback);
-        }
-        Ok(Feedback {
-            code,
-            stages: code.ilog2(),
-        })
     }
 }

@@ -1,11 +1,12 @@
 // Irreducibility, by trial division.
-ghost use Rattle.std.specs.Prelude.{◌≡◌, ◌/◌, ◌<◌, ◌↔◌, Decides};
+ghost use Rattle.std.specs.Prelude.{◌≡◌, ◌≢◌, ℕ, ◌+◌, ◌*◌, ◌/◌, ◌^◌, ◌<◌, ◌≤◌, ◌↔◌, IsTrue};
 ghost use Rattle.gf2.specs.Polynomials.{degree, residue, Irreducible};
 ghost use Rattle.gf2.specs.Trial.{Tried};
 
-// Whether a polynomial is irreducible.
+// Whether a polynomial is irreducible. Half its degree is as far as trial division has to go.
+#[tactic(auto, using(crate::proofs::Trials::half_is_enough))]
 pub fn is_irreducible(code: u32) -> bool
-    ensures { Decides result (Irreducible code) }
+    ensures { IsTrue result ↔ Irreducible code }
 {
     has_no_factor(code, degree_of(code) / 2)
 }
@@ -13,7 +14,7 @@ pub fn is_irreducible(code: u32) -> bool
 // Whether the degree is at least 1 and no polynomial of degree 1 to `most` divides: x, and then the divisors that x does not divide.
 fn has_no_factor(code: u32, most: u32) -> bool
     requires { most < 16 }
-    ensures { Decides result (Tried most code) }
+    ensures { IsTrue result ↔ Tried most code }
 {
     if code < 2 {
         return false;
@@ -21,15 +22,19 @@ fn has_no_factor(code: u32, most: u32) -> bool
     if most >= 1 && code % 2 == 0 {
         return false;
     }
-    for h in 1..1 << most {
-        if remainder(code, 2 * h + 1) == 0 {
-            return false;
-        }
-    }
-    true
+    has_no_odd_factor(code, most)
+}
+
+// Whether no divisor 2h + 1 of degree 1 to `most` divides.
+fn has_no_odd_factor(code: u32, most: u32) -> bool
+    requires { most < 16 }
+    ensures { IsTrue result ↔ ((h : ℕ) → 1 ≤ h → h < 2 ^ most → residue (2 * h + 1) code ≢ 0) }
+{
+    (1..1 << most).all(|h| remainder(code, 2 * h + 1) != 0)
 }
 
 // What is left of p: the divisor, moved up to p's degree, is taken off as often as it goes.
+#[tactic(auto, using(crate::proofs::Shifts::taken))]
 fn remainder(p: u32, divisor: u32) -> u32
     requires { 0 < divisor }
     ensures { result ≡ residue divisor p }
@@ -42,14 +47,11 @@ fn remainder(p: u32, divisor: u32) -> u32
     r
 }
 
-// The degree of a polynomial, 0 for the polynomial 0. Half of it is as far as trial division has to go.
+// The degree of a polynomial, 0 for the polynomial 0.
+#[tactic(auto, using(crate::proofs::Degrees::degree_is, crate::proofs::Degrees::degree_none))]
 fn degree_of(code: u32) -> u32
     ensures is { result ≡ degree code }
     ensures few { result < 32 }
-    ensures half { Tried (result / 2) code ↔ Irreducible code }
 {
-    match code.checked_ilog2() {
-        Some(k) => k,
-        None => 0,
-    }
+    code.checked_ilog2().unwrap_or(0)
 }

@@ -1,6 +1,6 @@
 use Rattle.std.proofs.Common.{◌≡◌, ℕ, ◌^◌, ◌<◌, get_or}
 use Rattle.gf2.specs.Polynomials.{residue}
-use Rattle.gf2.proofs.feedback.Feedback.powers_from.Given as goal
+use Rattle.gf2.proofs.feedback.Feedback.powers.Given as goal
 
 abbrev pub invariant-loop-word : goal.invariant-loop-word
 invariant-loop-word l =
