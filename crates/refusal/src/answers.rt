@@ -5,7 +5,6 @@ ghost use Rattle.refusal.specs.Table.{table};
 
 use crate::layer::Layer;
 use crate::reason::Refusal;
-use column::Column;
 use std::alloc::{AllocError, Global};
 use std::fmt;
 
@@ -16,63 +15,15 @@ impl Refusal {
     pub fn number(self) -> u32
         ensures { result ≡ (table self).number }
     {
-        match self {
-            Refusal::SheetTooLong => 1,
-            Refusal::LineTooLong { .. } => 2,
-            Refusal::UnknownKind { .. } => 3,
-            Refusal::WrongFields { .. } => 4,
-            Refusal::NotANumber { .. } => 5,
-            Refusal::OutOfPlace { .. } => 6,
-            Refusal::OutOfRange { .. } => 7,
-            Refusal::ClockOutOfOrder { .. } => 8,
-            Refusal::NoRoom { .. } => 9,
-            Refusal::WrongCount { .. } => 10,
-            Refusal::UnlawfulList { .. } => 11,
-            Refusal::RunOpen => 12,
-            Refusal::DegreesOutOfRange => 13,
-            Refusal::TooFewWords => 14,
-            Refusal::EqualErrors { .. } => 15,
-            Refusal::NoneKeepsApart => 16,
-            Refusal::NotAFeedback => 17,
-            Refusal::NoFeedback => 18,
-            Refusal::NoRun => 19,
-            Refusal::NotABit => 20,
-            Refusal::RunFull => 21,
-            Refusal::NotebookFull => 22,
-            Refusal::NothingFiled { .. } => 23,
-            Refusal::OutputTooShort => 24,
-        }
+        let (number, _, _) = self.row();
+        number
     }
 
     pub fn layer(self) -> Layer
         ensures { result ≡ (table self).layer }
     {
-        match self {
-            Refusal::SheetTooLong => Layer::Sheet,
-            Refusal::LineTooLong { .. } => Layer::Line,
-            Refusal::UnknownKind { .. } => Layer::Line,
-            Refusal::WrongFields { .. } => Layer::Line,
-            Refusal::NotANumber { .. } => Layer::Field,
-            Refusal::OutOfPlace { .. } => Layer::Sheet,
-            Refusal::OutOfRange { .. } => Layer::Sheet,
-            Refusal::ClockOutOfOrder { .. } => Layer::Sheet,
-            Refusal::NoRoom { .. } => Layer::Sheet,
-            Refusal::WrongCount { .. } => Layer::Sheet,
-            Refusal::UnlawfulList { .. } => Layer::List,
-            Refusal::RunOpen => Layer::Stand,
-            Refusal::DegreesOutOfRange => Layer::Choice,
-            Refusal::TooFewWords => Layer::Choice,
-            Refusal::EqualErrors { .. } => Layer::Choice,
-            Refusal::NoneKeepsApart => Layer::Choice,
-            Refusal::NotAFeedback => Layer::Choice,
-            Refusal::NoFeedback => Layer::Stand,
-            Refusal::NoRun => Layer::Stand,
-            Refusal::NotABit => Layer::Stand,
-            Refusal::RunFull => Layer::Stand,
-            Refusal::NotebookFull => Layer::Stand,
-            Refusal::NothingFiled { .. } => Layer::Stand,
-            Refusal::OutputTooShort => Layer::Report,
-        }
+        let (_, layer, _) = self.row();
+        layer
     }
 
     // Where it lies: a line and a column, which is 1 where the whole line is meant; two entries; or one place and 0.
@@ -80,31 +31,41 @@ impl Refusal {
     pub fn places(self) -> (usize, usize)
         ensures { result ≡ (table self).places }
     {
+        let (_, _, places) = self.row();
+        places
+    }
+
+    // Its number, its layer and its places.
+    fn row(self) -> (u32, Layer, (usize, usize))
+        ensures number { result.0 ≡ (table self).number }
+        ensures layer { result.1 ≡ (table self).layer }
+        ensures places { result.2 ≡ (table self).places }
+    {
         match self {
-            Refusal::SheetTooLong => (0, 0),
-            Refusal::LineTooLong { line } => (line, 1),
-            Refusal::UnknownKind { line } => (line, 1),
-            Refusal::WrongFields { line } => (line, 1),
-            Refusal::NotANumber { line, column } => (line, column),
-            Refusal::OutOfPlace { line } => (line, 1),
-            Refusal::OutOfRange { line, column } => (line, column),
-            Refusal::ClockOutOfOrder { line, column } => (line, column),
-            Refusal::NoRoom { line, column } => (line, column),
-            Refusal::WrongCount { line, column } => (line, column),
-            Refusal::UnlawfulList { fault } => (fault, 0),
-            Refusal::RunOpen => (0, 0),
-            Refusal::DegreesOutOfRange => (0, 0),
-            Refusal::TooFewWords => (0, 0),
-            Refusal::EqualErrors { first, second } => (first, second),
-            Refusal::NoneKeepsApart => (0, 0),
-            Refusal::NotAFeedback => (0, 0),
-            Refusal::NoFeedback => (0, 0),
-            Refusal::NoRun => (0, 0),
-            Refusal::NotABit => (0, 0),
-            Refusal::RunFull => (0, 0),
-            Refusal::NotebookFull => (0, 0),
-            Refusal::NothingFiled { place } => (place, 0),
-            Refusal::OutputTooShort => (0, 0),
+            Refusal::SheetTooLong => (1, Layer::Sheet, (0, 0)),
+            Refusal::LineTooLong { line } => (2, Layer::Line, (line, 1)),
+            Refusal::UnknownKind { line } => (3, Layer::Line, (line, 1)),
+            Refusal::WrongFields { line } => (4, Layer::Line, (line, 1)),
+            Refusal::NotANumber { line, column } => (5, Layer::Field, (line, column)),
+            Refusal::OutOfPlace { line } => (6, Layer::Sheet, (line, 1)),
+            Refusal::OutOfRange { line, column } => (7, Layer::Sheet, (line, column)),
+            Refusal::ClockOutOfOrder { line, column } => (8, Layer::Sheet, (line, column)),
+            Refusal::NoRoom { line, column } => (9, Layer::Sheet, (line, column)),
+            Refusal::WrongCount { line, column } => (10, Layer::Sheet, (line, column)),
+            Refusal::UnlawfulList { fault } => (11, Layer::List, (fault, 0)),
+            Refusal::RunOpen => (12, Layer::Stand, (0, 0)),
+            Refusal::DegreesOutOfRange => (13, Layer::Choice, (0, 0)),
+            Refusal::TooFewWords => (14, Layer::Choice, (0, 0)),
+            Refusal::EqualErrors { first, second } => (15, Layer::Choice, (first, second)),
+            Refusal::NoneKeepsApart => (16, Layer::Choice, (0, 0)),
+            Refusal::NotAFeedback => (17, Layer::Choice, (0, 0)),
+            Refusal::NoFeedback => (18, Layer::Stand, (0, 0)),
+            Refusal::NoRun => (19, Layer::Stand, (0, 0)),
+            Refusal::NotABit => (20, Layer::Stand, (0, 0)),
+            Refusal::RunFull => (21, Layer::Stand, (0, 0)),
+            Refusal::NotebookFull => (22, Layer::Stand, (0, 0)),
+            Refusal::NothingFiled { place } => (23, Layer::Stand, (place, 0)),
+            Refusal::OutputTooShort => (24, Layer::Report, (0, 0)),
         }
     }
 
@@ -120,22 +81,13 @@ impl Refusal {
 impl fmt::Display for Refusal {
     ghost output = { λ r. Some (stated r) };
 
+    #[tactic(auto, using(column::proofs::Padded::styled_right))]
     fn fmt<W: fmt::Write>(&self, f: &mut fmt::Formatter<W>) -> fmt::Result {
-        let layer = justified(self.layer().number() as u64);
-        let number = justified(self.number() as u64);
-        let (first, second) = self.places();
-        let first = justified(first as u64);
-        let second = justified(second as u64);
-        write!(f, "X{layer}{number}{first}{second}")
-    }
-}
-
-// A number of the line in its columns.
-fn justified(value: u64) -> Column
-    ensures { (result.width ≡ 9) × (result.value ≡ value) }
-{
-    Column {
-        width: WIDTH,
-        value,
+        let (number, layer, (first, second)) = self.row();
+        let layer = layer.number();
+        write!(
+            f,
+            "X{layer:>WIDTH$}{number:>WIDTH$}{first:>WIDTH$}{second:>WIDTH$}"
+        )
     }
 }

@@ -1,10 +1,10 @@
-// The part of the product that declines.
+// The part of the product that declines, and its number.
 ghost use Rattle.std.specs.Prelude.{◌≡◌};
 ghost use Rattle.refusal.specs.Table.{layer_number};
 
 #[derive(Clone, Copy, Debug, PartialEq, Eq)]
 pub enum Layer {
-    Field,
+    Field = 1,
     Line,
     Sheet,
     List,
@@ -17,14 +17,6 @@ impl Layer {
     pub fn number(self) -> u32
         ensures { result ≡ layer_number self }
     {
-        match self {
-            Layer::Field => 1,
-            Layer::Line => 2,
-            Layer::Sheet => 3,
-            Layer::List => 4,
-            Layer::Choice => 5,
-            Layer::Stand => 6,
-            Layer::Report => 7,
-        }
+        self as u32
     }
 }
