@@ -11,18 +11,13 @@ pub fn is_irreducible(code: u32) -> bool
     has_no_factor(code, degree_of(code) / 2)
 }
 
-// Whether the degree is at least 1 and no polynomial of degree 1 to `most` divides: x, and then the divisors that x does not divide.
+// Whether the degree is at least 1 and no polynomial of degree 1 to `most` divides: not x, and of the divisors that x does not divide none.
+#[tactic(auto, using(crate::proofs::Trials::trying))]
 fn has_no_factor(code: u32, most: u32) -> bool
     requires { most < 16 }
     ensures { IsTrue result ↔ Tried most code }
 {
-    if code < 2 {
-        return false;
-    }
-    if most >= 1 && code % 2 == 0 {
-        return false;
-    }
-    has_no_odd_factor(code, most)
+    code >= 2 && (most == 0 || code % 2 == 1) && has_no_odd_factor(code, most)
 }
 
 // Whether no divisor 2h + 1 of degree 1 to `most` divides.
