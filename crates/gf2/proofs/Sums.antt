@@ -1,9 +1,7 @@
 -- Laws of the sum of polynomials, `bit_xor`, beside those of lib.Bits.
-use Rattle.std.proofs.Common.{◌≡◌, ℕ, zero, suc, ◌+◌, ◌-◌, ◌*◌, ◌/◌, ◌%◌, ◌^◌, ◌<◌, ◌≤◌, sym, refl, ap, ◌∙◌, ap₂, one-mul, zero-mul, arith, pow_pos}
-use Rattle.std.proofs.Math.Nat.{div-eq_of_lt}
-use Rattle.std.proofs.Math.Decide.{dec_lt}
+use Rattle.std.proofs.Common.{◌≡◌, ℕ, zero, suc, ◌+◌, ◌*◌, ◌/◌, ◌^◌, ◌<◌, ◌≤◌, sym, ap, ◌∙◌, ap₂, one-mul, zero-mul, arith, pow_pos}
+use Rattle.std.proofs.Math.Nat.{div-eq_of_lt, div-eq_of_lt-le, div-lt_iff_lt-mul}
 use Rattle.std.specs.Int.Bits.{bit_xor, xor_block, xor_shifted, xor_assoc, xor_comm, xor_self, xor_zero_r, xor_shr}
-use Rattle.std.proofs.Math.Arith.{digits_div}
 use Rattle.std.proofs.lemmas.Nat.{shr_split, mod_below}
 
 pub xor_left_comm : (a b c : ℕ) → bit_xor a (bit_xor b c) ≡ bit_xor b (bit_xor a c)
@@ -62,21 +60,12 @@ Degree f k = (2 ^ k ≤ f) × (f < 2 * 2 ^ k)
 
 -- of the degree n, by a quotient
 pub top_of : (x n : ℕ) → Degree x n → x / 2 ^ n ≡ 1
-top_of x n h =
-    let e : 1 * 2 ^ n + (x - 2 ^ n) ≡ x = omega arith in
-    let l : x - 2 ^ n < 2 ^ n = omega arith in
-    ap (λ y. y / 2 ^ n) (sym e) ∙ digits_div 1 l
+top_of x n h = div-eq_of_lt-le (2 ^ n) (omega arith) (omega arith)
 
 pub of_top : (x n : ℕ) → x / 2 ^ n ≡ 1 → Degree x n
 of_top x n e =
-    let p : 1 * 2 ^ n + x % 2 ^ n ≡ x = rw e at (shr_split x n) in
-    let r = mod_below x (2 ^ n) (pow_pos n) in
-    omega arith
-
-pub shr_zero : (x n : ℕ) → x / 2 ^ n ≡ 0 → x < 2 ^ n
-shr_zero x n e =
-    let p : 0 * 2 ^ n + x % 2 ^ n ≡ x = rw e at (shr_split x n) in
-    let r = mod_below x (2 ^ n) (pow_pos n) in
+    let split = rw e at (shr_split x n) in
+    let rest = mod_below x (2 ^ n) (pow_pos n) in
     omega arith
 
 pub degree_xor : (x y n : ℕ) → Degree x n → y < 2 ^ n → Degree (bit_xor x y) n
@@ -85,20 +74,12 @@ degree_xor x y n h k = of_top (bit_xor x y) n (xor_shr x y n ∙ ap₂ bit_xor (
 pub degrees_xor : (x y n : ℕ) → Degree x n → Degree y n → bit_xor x y < 2 ^ n
 degrees_xor x y n h k =
     let e : bit_xor x y / 2 ^ n ≡ 0 = xor_shr x y n ∙ ap₂ bit_xor (top_of x n h) (top_of y n k) in
-    shr_zero (bit_xor x y) n e
+    let below : bit_xor x y < 1 * 2 ^ n = (div-lt_iff_lt-mul (pow_pos n)).0 (omega arith) in
+    omega arith
 
 -- what stands at x^n, below 2^(n+1)
 pub carry_below : (n x : ℕ) → x < 2 * 2 ^ n → x / 2 ^ n < 2
-carry_below n x h = by (dec_lt x (2 ^ n))
-  where
-    by : Dec (x < 2 ^ n) → x / 2 ^ n < 2
-    by (yes l) = omega (arith, div-eq_of_lt l)
-    by (no l) = omega (arith, top_of x n (omega arith))
+carry_below n x h = (div-lt_iff_lt-mul (pow_pos n)).1 h
 
 pub carry_fits : (n x : ℕ) → x / 2 ^ n < 2 → x < 2 * 2 ^ n
-carry_fits n x h = by (x / 2 ^ n) refl h
-  where
-    by : (u : ℕ) → x / 2 ^ n ≡ u → u < 2 → x < 2 * 2 ^ n
-    by zero e l = omega (arith, shr_zero x n e)
-    by (suc zero) e l = omega (arith, of_top x n e)
-    by (suc (suc u)) e l = absurd (omega arith)
+carry_fits n x h = (div-lt_iff_lt-mul (pow_pos n)).0 h
