@@ -6,6 +6,7 @@ ghost use Rattle.refusal.specs.Table.{table};
 use crate::layer::Layer;
 use crate::reason::Refusal;
 use std::alloc::{AllocError, Global};
+use std::error::Error;
 use std::fmt;
 
 // The columns that each number has on a refusal's line.
@@ -91,3 +92,5 @@ impl fmt::Display for Refusal {
         )
     }
 }
+
+impl Error for Refusal {}
