@@ -9,6 +9,7 @@ use Rattle.std.specs.List.{range_with_len}
 use Rattle.gf2.specs.Polynomials.{coefficient, residue}
 use Rattle.gf2.specs.Responses.{bit, polynomial, response}
 use Rattle.gf2.specs.Laws.{ResponseLaws}
+use Rattle.gf2.proofs.Sums.{by_digit}
 use Rattle.gf2.proofs.Remainders.{residue_zero}
 
 pub bit_below : (c : Bool) → bit c < 2
@@ -115,9 +116,7 @@ coefficient_half p i =
     ap (λ x. x % 2) (sym (shr-shr p 1 i ∙ ap (λ x. p / 2 ^ x) n))
 
 one_bit : (c : ℕ) → c < 2 → bit (eqb c 1) ≡ c
-one_bit zero h = refl
-one_bit (suc zero) h = refl
-one_bit (suc (suc c)) h = absurd (omega arith)
+one_bit = by_digit (λ c. bit (eqb c 1) ≡ c) refl refl
 
 -- a polynomial below x^n is the response of its coefficients
 pub response_of : (n p : ℕ) → p < 2 ^ n → response n (λ j. eqb (coefficient p (n - 1 - j)) 1) ≡ p

@@ -1,4 +1,4 @@
--- Laws of the sum of polynomials, `bit_xor`, beside those of lib.Bits.
+-- Laws of the sum of polynomials, `bit_xor`, beside those of the library.
 use Rattle.std.proofs.Common.{◌≡◌, ℕ, zero, suc, ◌+◌, ◌*◌, ◌/◌, ◌^◌, ◌<◌, ◌≤◌, sym, ap, ◌∙◌, ap₂, one-mul, zero-mul, arith, pow_pos}
 use Rattle.std.proofs.Math.Nat.{div-eq_of_lt, div-eq_of_lt-le, div-lt_iff_lt-mul}
 use Rattle.std.specs.Int.Bits.{bit_xor, xor_block, xor_shifted, xor_assoc, xor_comm, xor_self, xor_zero_r, xor_shr}
@@ -32,22 +32,23 @@ xor_digit a c h =
     let p : a * 2 ≡ 2 * a = omega arith in
     ap (λ x. bit_xor x c) (sym p) ∙ xor_shifted a 1 c h ∙ ap (λ x. x + c) p
 
+-- a digit is 0 or 1
+pub by_digit : (P : ℕ → Type 0) → P 0 → P 1 → (c : ℕ) → c < 2 → P c
+by_digit P none one zero h = none
+by_digit P none one (suc zero) h = one
+by_digit P none one (suc (suc c)) h = absurd (omega arith)
+
 pub digit_mul_xor : (c a b : ℕ) → c < 2 → c * bit_xor a b ≡ bit_xor (c * a) (c * b)
-digit_mul_xor zero a b h = simp zero-mul
-digit_mul_xor (suc zero) a b h = simp one-mul
-digit_mul_xor (suc (suc c)) a b h = absurd (omega arith)
+digit_mul_xor c a b = by_digit (λ c. c * bit_xor a b ≡ bit_xor (c * a) (c * b)) (simp zero-mul) (simp one-mul) c
 
 pub digit_xor_mul : (c d a : ℕ) → c < 2 → d < 2 → bit_xor c d * a ≡ bit_xor (c * a) (d * a)
-digit_xor_mul zero d a h k = simp zero-mul
-digit_xor_mul (suc zero) zero a h k = simp (zero-mul, xor_zero_r)
-digit_xor_mul (suc zero) (suc zero) a h k = simp (zero-mul, xor_self)
-digit_xor_mul (suc zero) (suc (suc d)) a h k = absurd (omega arith)
-digit_xor_mul (suc (suc c)) d a h k = absurd (omega arith)
+digit_xor_mul c d a h =
+    by_digit (λ d. bit_xor c d * a ≡ bit_xor (c * a) (d * a)) (simp (zero-mul, xor_zero_r))
+    (by_digit (λ c. bit_xor c 1 * a ≡ bit_xor (c * a) (1 * a)) (simp zero-mul) (simp (zero-mul, xor_self)) c h)
+    d
 
 pub digit_mul_le : (c f : ℕ) → c < 2 → c * f ≤ f
-digit_mul_le zero f h = omega arith
-digit_mul_le (suc zero) f h = omega arith
-digit_mul_le (suc (suc c)) f h = absurd (omega arith)
+digit_mul_le c f = by_digit (λ c. c * f ≤ f) (omega arith) (omega arith) c
 
 pub xor_swap : (a b c d : ℕ) → bit_xor (bit_xor a b) (bit_xor c d) ≡ bit_xor (bit_xor a c) (bit_xor b d)
 xor_swap a b c d = simp xors

@@ -3,7 +3,7 @@ use Rattle.std.proofs.Common.{◌≡◌, ℕ, zero, suc, ◌+◌, ◌*◌, ◌/�
 use Rattle.std.specs.Int.Bits.{bit_xor, xor_comm, xor_mod, xor_shr, xor_shifted}
 use Rattle.gf2.specs.Polynomials.{residue}
 use Rattle.gf2.specs.Tables.{combination, Powers}
-use Rattle.gf2.proofs.Sums.{xors, xor_swap, digit_xor_mul, Degree}
+use Rattle.gf2.proofs.Sums.{by_digit, xors, xor_swap, digit_xor_mul, Degree}
 use Rattle.gf2.proofs.Remainders.{residue_zero, residue_xor}
 
 pub combination_zero : (ts : List ℕ) → combination ts 0 ≡ 0
@@ -30,9 +30,10 @@ combination_power (t ∷ ts) (suc j) h =
 
 module _ (k f : ℕ) (d : Degree f k) where
   residue_digit : (c p : ℕ) → c < 2 → c * residue f p ≡ residue f (c * p)
-  residue_digit zero p h = zero-mul (residue f p) ∙ sym (ap (residue f) (zero-mul p) ∙ residue_zero f)
-  residue_digit (suc zero) p h = one-mul (residue f p) ∙ ap (residue f) (sym (one-mul p))
-  residue_digit (suc (suc c)) p h = absurd (omega arith)
+  residue_digit c p =
+      by_digit (λ c. c * residue f p ≡ residue f (c * p)) (zero-mul (residue f p) ∙ sym (ap (residue f) (zero-mul p) ∙ residue_zero f))
+      (one-mul (residue f p) ∙ ap (residue f) (sym (one-mul p)))
+      c
 
   -- the powers from x^s on
   picked : (ts : List ℕ) (s p : ℕ) → ((j : ℕ) → j < length ts → get_or ts j 0 ≡ residue f (2 ^ (s + j))) → p < 2 ^ length ts
@@ -52,9 +53,7 @@ module _ (k f : ℕ) (d : Degree f k) where
       ∙ ap (residue f) (whole s p)
     where
       below : (c s : ℕ) → c < 2 → c * 2 ^ s < 2 ^ suc s
-      below zero s h = omega (arith, pow_pos s)
-      below (suc zero) s h = omega (arith, pow_pos s)
-      below (suc (suc c)) s h = absurd (omega arith)
+      below c s = by_digit (λ c. c * 2 ^ s < 2 ^ suc s) (omega (arith, pow_pos s)) (omega (arith, pow_pos s)) c
 
       whole : (s p : ℕ) → bit_xor (p % 2 * 2 ^ s) (p / 2 * 2 ^ suc s) ≡ p * 2 ^ s
       whole s p =

@@ -4,7 +4,7 @@ use Rattle.std.proofs.Math.Arith.{bin_ind}
 use Rattle.std.specs.Int.Bits.{bit_xor, xor_shr, xor_mod}
 use Rattle.gf2.specs.Polynomials.{times}
 use Rattle.gf2.proofs.Horner.{horner_step}
-use Rattle.gf2.proofs.Sums.{double_xor, xor_digit, digit_mul_xor, digit_xor_mul, xor_swap}
+use Rattle.gf2.proofs.Sums.{by_digit, double_xor, xor_digit, digit_mul_xor, digit_xor_mul, xor_swap}
 
 pub times_step : (a b : ℕ) → times a b ≡ bit_xor (2 * times (a / 2) b) ((a % 2) * b)
 unfolding times
@@ -66,9 +66,7 @@ times_double_r a b =
     a
 
 pub times_digit_r : (a c : ℕ) → c < 2 → times a c ≡ c * a
-times_digit_r a zero h = times_zero_r a ∙ sym (zero-mul a)
-times_digit_r a (suc zero) h = times_one_r a ∙ sym (one-mul a)
-times_digit_r a (suc (suc c)) h = absurd (omega arith)
+times_digit_r a c = by_digit (λ c. times a c ≡ c * a) (times_zero_r a ∙ sym (zero-mul a)) (times_one_r a ∙ sym (one-mul a)) c
 
 -- a·(x·b + c) is x·(a·b) + c·a
 pub times_more_r : (a b c : ℕ) → c < 2 → times a (2 * b + c) ≡ bit_xor (2 * times a b) (c * a)
@@ -100,9 +98,7 @@ times_assoc a b c =
     a
   where
     scaled : (d : ℕ) → d < 2 → times (d * b) c ≡ d * times b c
-    scaled zero h = simp (zero-mul, times_zero)
-    scaled (suc zero) h = simp one-mul
-    scaled (suc (suc d)) h = absurd (omega arith)
+    scaled = by_digit (λ d. times (d * b) c ≡ d * times b c) (simp (zero-mul, times_zero)) (simp one-mul)
 
 shift_more : (a k : ℕ) → a * 2 ^ suc k ≡ 2 * (a * 2 ^ k)
 shift_more a k = rw pow-suc (omega arith)

@@ -14,6 +14,7 @@ impl Feedback {
         ensures division { Division p self.now.code result.0 result.1 }
         ensures laws { DivisionLaws self.now.code }
     {
+        // By a loop: no contract says what a fold over a range gives.
         let mut quotient = 0;
         let mut remainder = 0;
         for n in (0..u64::BITS).rev() {
