@@ -1,16 +1,13 @@
 -- Pairs of entries: which pair comes first, and what equal words say.
-use Rattle.std.proofs.Common.{refl, ◌+◌, ◌≢◌, ◌⊎◌, inl, inr, Decides, ◌≡◌, ℕ, ◌<◌, ◌≤◌, Bool, true, false, List, length, get_or, Some, None, Option, sym, ap, ◌∙◌, subst, arith, MatchOption}
+use Rattle.std.proofs.Common.{refl, ◌≢◌, ◌⊎◌, inl, inr, Decides, ◌≡◌, ℕ, ◌<◌, ◌≤◌, Bool, true, false, List, length, Some, None, Option, sym, ap, ◌∙◌, subst, arith, MatchOption}
 use lib.Bits.{bit_xor, xor_self}
 use native.Mathlib.Decide.{dec_lt}
 use Rattle.std.proofs.lemmas.Bool.{cases_order}
-use Rattle.std.proofs.lemmas.List.FromFn.{length-range_with_len, get_or-range_with_len}
-use Rattle.std.specs.Bool.{MatchBool}
-use Rattle.std.specs.List.{AllWithin, HoldsAt, range_with_len}
 use Rattle.gf2.specs.Polynomials.{residue}
 use Rattle.gf2.specs.Laws.{ResidueLaws}
 use Rattle.gf2.proofs.Times.{times_zero}
 use Rattle.gf2.proofs.Responses.{response_same}
-use Rattle.gf2.proofs.Decided.{confirmed, denied, refuted}
+use Rattle.gf2.proofs.Decided.{denied}
 use Rattle.faults.specs.Meaning.{Faults, Lawful, entries, entry, wrong, combined}
 use Rattle.faults.proofs.Errors.{error_of}
 use Rattle.apart.specs.Apart.{Differ, Confuses, EqualErrors, Distinct, First}
@@ -26,20 +23,6 @@ same_error m a b n s l h =
 
 pub same_wrong : (m : Faults) (a b j : ℕ) → (entry m a).error ≡ (entry m b).error → wrong m a j ≡ wrong m b j
 same_wrong m a b j e = simp e
-
--- `all` over a range, said of the numbers in it
-pub all_in_range : (n : ℕ) (P : ℕ → Type 0) (r : Bool)
-    → MatchBool r (AllWithin P (range_with_len 0 n) 0 (length (range_with_len 0 n))) ((k : ℕ) × (k < length (range_with_len 0 n)) × HoldsAt (λ j. P j → ⊥) (range_with_len 0 n) k)
-    → Decides r ((j : ℕ) → j < n → P j)
-all_in_range n P r h = by r h
-  where
-    item : (j : ℕ) → j < n → get_or (range_with_len 0 n) j 0 ≡ j
-    item j l = let e : 0 + j ≡ j = omega arith in get_or-range_with_len 0 n j 0 l ∙ e
-
-    by : (r : Bool) → MatchBool r (AllWithin P (range_with_len 0 n) 0 (length (range_with_len 0 n))) ((k : ℕ) × (k < length (range_with_len 0 n)) × HoldsAt (λ j. P j → ⊥) (range_with_len 0 n) k)
-        → Decides r ((j : ℕ) → j < n → P j)
-    by true h = confirmed (λ j l. subst P (item j l) (h j 0 (omega arith) (rw length-range_with_len l)))
-    by false h = let l : h.0 < n = rw length-range_with_len at h.1 in refuted (λ all. h.2 0 (subst P (sym (item h.0 l)) (all h.0 l)))
 
 -- The first pair that passes is the first of which P holds, where the test decides P, and P holds of two entries in either order.
 pub first_of : (Answers : ℕ → ℕ → Bool → Type 0) (P : ℕ → ℕ → Type 0) (end : ℕ)

@@ -1,10 +1,11 @@
 -- What `all` over a range of numbers tells.
-use Rattle.std.proofs.Common.{◌≡◌, ℕ, ◌+◌, ◌-◌, ◌≤◌, ◌<◌, Bool, true, false, ◌↔◌, List, length, get_or, refl, subst, ◌∙◌, sym, arith}
+use Rattle.std.proofs.Common.{◌≡◌, ℕ, ◌+◌, ◌-◌, ◌≤◌, ◌<◌, Bool, true, false, ◌↔◌, List, length, get_or, refl, subst, ◌∙◌, arith}
 use Rattle.std.specs.Bool.{MatchBool, IsTrue}
 use Rattle.std.specs.List.{range_with_len, AllWithin, HoldsAt}
 use Rattle.std.proofs.lemmas.List.FromFn.{length-range_with_len, get_or-range_with_len}
 
-module _ (P : ℕ → Type 0) (low high : ℕ) where
+-- the numbers from low up to high, of which a test tells Yes or No
+module _ (Yes No : ℕ → Type 0) (either : (h : ℕ) → Yes h → No h → ⊥) (low high : ℕ) where
   abbrev numbers : List ℕ
   numbers = range_with_len low (high - low)
 
@@ -14,14 +15,14 @@ module _ (P : ℕ → Type 0) (low high : ℕ) where
   place : (h : ℕ) → low ≤ h → h < high → get_or numbers (h - low) 0 ≡ h
   place h above below = get_or-range_with_len low (high - low) (h - low) 0 (omega arith) ∙ omega arith
 
-  pub none_in_range : (r : Bool)
-      → MatchBool r (AllWithin (λ h. P h → ⊥) numbers 0 (length numbers)) ((k : ℕ) × (k < length numbers) × HoldsAt P numbers k)
-      → IsTrue r ↔ ((h : ℕ) → low ≤ h → h < high → P h → ⊥)
-  none_in_range true told = (
-    λ yes h above below p. told (h - low) 0 (omega arith) (omega (arith, long)) (subst P (sym (place h above below)) p),
-    λ none. refl,
+  pub all_in_range : (r : Bool)
+      → MatchBool r (AllWithin Yes numbers 0 (length numbers)) ((k : ℕ) × (k < length numbers) × HoldsAt No numbers k)
+      → IsTrue r ↔ ((h : ℕ) → low ≤ h → h < high → Yes h)
+  all_in_range true told = (
+    λ yes h above below. subst Yes (place h above below) (told (h - low) 0 (omega arith) (omega (arith, long))),
+    λ all. refl,
   )
-  none_in_range false (k, within, here) = (
+  all_in_range false (k, within, here) = (
     λ yes. absurd (cc),
-    λ none. absurd (none (low + k) (omega arith) (omega (arith, long)) (subst P (get_or-range_with_len low (high - low) k 0 (omega (arith, long))) (here 0))),
+    λ all. absurd (either (low + k) (all (low + k) (omega arith) (omega (arith, long))) (subst No (get_or-range_with_len low (high - low) k 0 (omega (arith, long))) (here 0))),
   )
