@@ -22,6 +22,10 @@ unmarked bytes j h = ap (λ x. eqb (coefficient x (7 - j % 8)) 1) (get_or_past b
 response_of_no_bytes : (n : ℕ) → response n (marked []) ≡ 0
 response_of_no_bytes n = response_quiet n (marked []) (λ j l. unmarked [] j (omega arith))
 
+-- a fault for each class
+pub row_count : (n : ℕ) (cs rs : List ℕ) → length (by_rows n cs rs).faults ≡ length cs
+row_count n cs rs = length-map-range_with_len (rowed n cs rs) 0 (length cs)
+
 module _ (n : ℕ) (cs rs : List ℕ) where
   pub row_entry_none : (i : ℕ) → (i ≡ 0) ⊎ (length cs < i) → entry (by_rows n cs rs) i ≡ record { class = 0; error = response n (marked []) }
   row_entry_none zero h = ap (λ x. record { class = 0; error = x }) (sym (response_of_no_bytes n))

@@ -17,11 +17,11 @@ impl<'a> FaultList for ClockList<'a> {
     ghost lawful = { clock_list_lawful };
 
     fn clocks(&self) -> usize {
-        self.lawful_length()
+        self.n
     }
 
     fn count(&self) -> usize {
-        self.fault_count()
+        self.records.len()
     }
 
     fn class(&self, i: usize) -> u8 {
@@ -42,22 +42,6 @@ impl<'a> FaultList for ClockList<'a> {
 }
 
 impl<'a> ClockList<'a> {
-    // n; that the list keeps the rules is known from here.
-    fn lawful_length(&self) -> usize
-        ensures is { result ≡ self.now.n }
-        ensures lawful { Lawful (clock_list self.now) }
-    {
-        self.n
-    }
-
-    // The number of faults.
-    fn fault_count(&self) -> usize
-        ensures is { result ≡ length (clock_list self.now).faults }
-        ensures few { result ≤ 200 }
-    {
-        self.records.len()
-    }
-
     // The record of entry i: a blank one for the good board, and past the last entry.
     fn record_of(&self, i: usize) -> FaultRecord
         ensures is { result ≡ slice_index_or (blank ∷ self.now.records.now) i blank }

@@ -18,11 +18,12 @@ impl<'a> FaultList for RowList<'a> {
     ghost lawful = { row_list_lawful };
 
     fn clocks(&self) -> usize {
-        self.lawful_length()
+        self.n
     }
 
+    #[tactic(auto, using(crate::proofs::RowLists::row_count))]
     fn count(&self) -> usize {
-        self.fault_count()
+        self.classes.len()
     }
 
     fn class(&self, i: usize) -> u8 {
@@ -43,22 +44,6 @@ impl<'a> FaultList for RowList<'a> {
 }
 
 impl<'a> RowList<'a> {
-    // n; that the list keeps the rules is known from here.
-    fn lawful_length(&self) -> usize
-        ensures is { result ≡ self.now.n }
-        ensures lawful { Lawful (row_list self.now) }
-    {
-        self.n
-    }
-
-    // The number of faults.
-    fn fault_count(&self) -> usize
-        ensures is { result ≡ length (row_list self.now).faults }
-        ensures few { result ≤ 200 }
-    {
-        self.classes.len()
-    }
-
     // The class of entry i, and 0 for the good board and past the last entry.
     fn class_of(&self, i: usize) -> u8
         ensures { result ≡ (entry (row_list self.now) i).class }
