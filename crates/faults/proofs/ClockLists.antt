@@ -7,8 +7,8 @@ use Rattle.std.proofs.lemmas.List.{get_or-map, get_or_past, length-map}
 use Rattle.gf2.specs.Polynomials.{coefficient}
 use Rattle.gf2.specs.Responses.{response}
 use Rattle.gf2.specs.Tables.{combination}
-use Rattle.faults.specs.Meaning.{good, entry}
-use Rattle.faults.specs.Clocks.{among, blank, recorded, by_clocks, Below, Rising, Kept}
+use Rattle.faults.specs.Meaning.{Fault, good, entry}
+use Rattle.faults.specs.Clocks.{among, blank, part, recorded, by_clocks, Below, Rising, Kept}
 use Rattle.faults.specs.Picking.{picked}
 use Rattle.faults.specs.declared.fault_record.FaultRecord.{FaultRecord}
 use Rattle.faults.proofs.Errors.{wrong_response, wrong_past, response_quiet, picked_wrong, picked_quiet, picked_all}
@@ -112,15 +112,6 @@ blank_good n cs = ap (λ x. record { class = 0; error = x }) (response_of_none n
 pub blank_kept : (n : ℕ) (cs : List ℕ) → Kept n cs blank
 blank_kept n cs = record { class = omega arith; within = omega arith; below = λ k l. absurd (omega arith); rising = λ k l. absurd (omega arith) }
 
-pub record_none : (rs : List FaultRecord) (i : ℕ) → (i ≡ 0) ⊎ (length rs < i) → get_or (blank ∷ rs) i blank ≡ blank
-record_none rs zero h = refl
-record_none rs (suc i) (inl e) = absurd (omega arith)
-record_none rs (suc i) (inr l) = get_or_past rs i blank (omega arith)
-
-pub record_at : (rs : List FaultRecord) (i : ℕ) → 0 < i → get_or (blank ∷ rs) i blank ≡ get_or rs (i - 1) blank
-record_at rs zero h = absurd (omega arith)
-record_at rs (suc i) h = let e : i ≡ suc i - 1 = omega arith in ap (λ x. get_or rs x blank) e
-
 module _ (n : ℕ) (rs : List FaultRecord) (cs : List ℕ) where
   -- an entry is what its record says, and the blank record says that of the good board
   pub clock_entry : (i : ℕ) → entry (by_clocks n rs cs) i ≡ recorded n cs (get_or (blank ∷ rs) i blank)
@@ -130,6 +121,9 @@ module _ (n : ℕ) (rs : List FaultRecord) (cs : List ℕ) where
       by : Dec (i < length rs) → get_or (map (recorded n cs) rs) i good ≡ recorded n cs (get_or rs i blank)
       by (yes l) = get_or-map (recorded n cs) rs i blank good l
       by (no l) = get_or_past (map (recorded n cs) rs) i good (rw length-map (omega arith)) ∙ sym (blank_good n cs) ∙ ap (recorded n cs) (sym (get_or_past rs i blank (omega arith)))
+
+  pub record_error : (i : ℕ) → (entry (by_clocks n rs cs) i).error ≡ response n (among (part cs (get_or (blank ∷ rs) i blank).clocks))
+  record_error i = ap (λ (x : Fault). x.error) (clock_entry i)
 
   -- the rules hold past the last record too
   pub kept_all : ((k : ℕ) → k < length rs → Kept n cs (get_or rs k blank)) → (i : ℕ) → Kept n cs (get_or rs i blank)

@@ -1,14 +1,13 @@
 -- The entries of a row list.
-use Rattle.std.proofs.Common.{◌≡◌, ℕ, zero, suc, ◌+◌, ◌-◌, ◌*◌, ◌/◌, ◌%◌, ◌<◌, ◌≤◌, false, eqb, ◌⊎◌, List, [], map, length, get_or, sym, ap, ◌∙◌, subst, ap₂, inl, inr, le_refl, add-mul, one-mul, zero-mul, arith, pow_pos}
+use Rattle.std.proofs.Common.{◌≡◌, ℕ, zero, suc, ◌+◌, ◌-◌, ◌*◌, ◌/◌, ◌%◌, ◌<◌, ◌≤◌, false, eqb, ◌⊎◌, List, [], ◌∷◌, map, length, get_or, take, drop, length-drop, sym, refl, ap, ◌∙◌, subst, ap₂, inl, inr, zero-mul, arith, pow_pos}
 use native.Mathlib.Nat.{div-eq_of_lt}
 use native.Mathlib.Decide.{dec_lt}
 use Rattle.std.specs.List.{range_with_len}
 use Rattle.std.proofs.lemmas.List.FromFn.{length-map-range_with_len, get_or-map-range_with_len}
-use Rattle.std.proofs.lemmas.Nat.{mul-le}
-use Rattle.std.proofs.lemmas.List.{get_or_past}
+use Rattle.std.proofs.lemmas.List.{get_or_past, take_all}
 use Rattle.gf2.specs.Polynomials.{coefficient}
 use Rattle.gf2.specs.Responses.{response}
-use Rattle.faults.specs.Meaning.{good, entry}
+use Rattle.faults.specs.Meaning.{Fault, good, entry}
 use Rattle.faults.specs.Rows.{stride, marked, rowed, by_rows}
 use Rattle.faults.proofs.Errors.{response_quiet}
 
@@ -42,19 +41,30 @@ module _ (n : ℕ) (cs rs : List ℕ) where
       let e : suc i - 1 ≡ i = omega arith in
       get_or-map-range_with_len (rowed n cs rs) 0 (length cs) i i good (omega arith) (omega arith) ∙ ap (rowed n cs rs) (sym e)
 
+  -- the k bytes from the beginning of the row at place i - 1
+  pub row_error_at : (i k : ℕ) → 0 < i → i ≤ length cs → k ≡ stride n
+      → (entry (by_rows n cs rs) i).error ≡ response n (marked (take k (take (length rs - (i - 1) * k) (drop ((i - 1) * k) rs))))
+  row_error_at i k h l is =
+      ap (λ (x : Fault). x.error) (row_entry_at i h l)
+      ∙ ap (λ x. response n (marked (take x (drop ((i - 1) * x) rs)))) (sym is)
+      ∙ ap (λ x. response n (marked (take k x))) (sym (take_all (length rs - (i - 1) * k) (drop ((i - 1) * k) rs) (omega (arith, length-drop ((i - 1) * k) rs))))
+
+  -- the class of the good board is 0, as that past the last class
+  pub row_class : (i : ℕ) → (entry (by_rows n cs rs) i).class ≡ get_or (0 ∷ cs) i 0
+  row_class zero = refl
+  row_class (suc i) = by (dec_lt i (length cs))
+    where
+      by : Dec (i < length cs) → (entry (by_rows n cs rs) (suc i)).class ≡ get_or cs i 0
+      by (yes l) = ap (λ (x : Fault). x.class) (get_or-map-range_with_len (rowed n cs rs) 0 (length cs) i i good l (omega arith))
+      by (no l) =
+          ap (λ (x : Fault). x.class) (get_or_past (map (rowed n cs rs) (range_with_len 0 (length cs))) i good (rw length-map-range_with_len (omega arith)))
+          ∙ sym (get_or_past cs i 0 (omega arith))
+
 -- ---- the memory of the rows
 
 pub rows_room : (n count long : ℕ) → ((i : ℕ) → i < count → (i + 1) * stride n ≤ long) → count * stride n ≤ long
 rows_room n zero long h = rw zero-mul (omega arith)
 rows_room n (suc count) long h = let e : count + 1 ≡ suc count = omega arith in subst (λ x. x * stride n ≤ long) e (h count (omega arith))
-
--- a row lies within
-pub row_within : (n i count long : ℕ) → 0 < i → i ≤ count → count * stride n ≤ long → (i - 1) * stride n + stride n ≤ long
-row_within n i count long h l room =
-    let e : i - 1 + 1 ≡ i = omega arith in
-    let a = mul-le i (stride n) count (stride n) l (le_refl (stride n)) in
-    let b : (i - 1) * stride n + stride n ≡ i * stride n = ap (λ x. (i - 1) * stride n + x) (sym (one-mul (stride n))) ∙ sym (add-mul (i - 1) 1 (stride n)) ∙ ap (λ x. x * stride n) e in
-    omega arith
 
 pub classes_all : (cs : List ℕ) → ((k : ℕ) → k < length cs → get_or cs k 0 ≤ 99) → (i : ℕ) → get_or cs i 0 ≤ 99
 classes_all cs h i = by (dec_lt i (length cs))

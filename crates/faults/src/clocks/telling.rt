@@ -8,7 +8,7 @@ ghost use Rattle.faults.specs.ClockLists.{clock_list};
 ghost use Rattle.faults.specs.Lawful.{clock_list_lawful};
 
 use super::ClockList;
-use crate::fault_record::{FaultRecord, Span};
+use crate::fault_record::FaultRecord;
 use crate::list::FaultList;
 
 impl<'a> FaultList for ClockList<'a> {
@@ -43,21 +43,17 @@ impl<'a> FaultList for ClockList<'a> {
 
 impl<'a> ClockList<'a> {
     // The record of entry i: a blank one for the good board, and past the last entry.
+    #[tactic(auto, using(crate::proofs::ClockLists::record_error))]
     fn record_of(&self, i: usize) -> FaultRecord
         ensures is { result ≡ slice_index_or (blank ∷ self.now.records.now) i blank }
         ensures class { result.class ≡ (entry (clock_list self.now) i).class }
         ensures error { (entry (clock_list self.now) i).error ≡ response self.now.n (among (part self.now.clocks.now result.clocks)) }
         ensures kept { Kept self.now.n self.now.clocks.now result }
     {
-        if i == 0 || self.records.len() < i {
-            let none = Span { start: 0, len: 0 };
-            return FaultRecord {
-                class: 0,
-                clocks: none,
-                name: none,
-            };
-        }
-        self.records[i - 1]
+        i.checked_sub(1)
+            .and_then(|place| self.records.get(place))
+            .copied()
+            .unwrap_or_default()
     }
 
     // The wrong clocks of entry i.

@@ -26,8 +26,13 @@ impl<'a> FaultList for RowList<'a> {
         self.classes.len()
     }
 
+    // 0 for the good board, and past the last entry.
+    #[tactic(auto, using(crate::proofs::RowLists::row_class))]
     fn class(&self, i: usize) -> u8 {
-        self.class_of(i)
+        i.checked_sub(1)
+            .and_then(|place| self.classes.get(place))
+            .copied()
+            .unwrap_or(0)
     }
 
     fn wrong(&self, i: usize, clock: usize) -> bool {
@@ -44,16 +49,6 @@ impl<'a> FaultList for RowList<'a> {
 }
 
 impl<'a> RowList<'a> {
-    // The class of entry i, and 0 for the good board and past the last entry.
-    fn class_of(&self, i: usize) -> u8
-        ensures { result ≡ (entry (row_list self.now) i).class }
-    {
-        if i == 0 || self.classes.len() < i {
-            return 0;
-        }
-        self.classes[i - 1]
-    }
-
     // The row of entry i: no bytes for the good board, and past the last entry.
     fn row_of(&self, i: usize) -> &[u8]
         ensures error { (entry (row_list self.now) i).error ≡ response self.now.n (marked result.now) }
@@ -61,12 +56,10 @@ impl<'a> RowList<'a> {
         ensures few { length result.now ≤ 512 }
     {
         if i == 0 || self.classes.len() < i {
-            return &self.rows[0..0];
+            return &[];
         }
         let stride = row_bytes(self.n);
-        let start = (i - 1) * stride;
-        let end = start + stride;
-        &self.rows[start..end]
+        &self.rows[(i - 1) * stride..][..stride]
     }
 }
 
