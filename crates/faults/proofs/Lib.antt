@@ -1,3 +1,4 @@
 pub mod Errors
 pub mod ClockLists
 pub mod RowLists
+pub mod Filling

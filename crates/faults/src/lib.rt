@@ -1,6 +1,7 @@
 // Fault lists: what one means, what every make of one tells, and two makes.
 #![tactic(auto)]
 
+mod checking;
 mod clocks;
 mod fault_record;
 mod list;

@@ -7,10 +7,9 @@ mod telling;
 
 // The bytes of a row.
 fn row_bytes(n: usize) -> usize
-    requires { n ≤ 4096 }
     ensures { result ≡ stride n }
 {
-    (n + 7) / 8
+    n.div_ceil(8)
 }
 
 // A fault for each class, and one row after another.

@@ -1,13 +1,14 @@
 // Making a clock list, and filling it from memory.
-ghost use Rattle.std.specs.Prelude.{◌≡◌, length, Decides};
+ghost use Rattle.std.specs.Prelude.{◌≡◌, ◌↔◌, length, IsTrue};
 ghost use Rattle.faults.specs.Meaning.{empty};
 ghost use Rattle.faults.specs.Clocks.{Kept, KeptAt, Below, Rising, by_clocks};
 ghost use Rattle.faults.specs.ClockLists.{clock_list};
-ghost use Rattle.faults.specs.Filling.{Follows, Fills};
+ghost use Rattle.faults.specs.Filling.{Fills, Makes};
 
 use super::ClockList;
+use crate::checking::check;
 use crate::fault_record::FaultRecord;
-use crate::sizes::{MAX_CLASS, is_sized};
+use crate::sizes::MAX_CLASS;
 use refusal::Refusal;
 
 impl<'a> ClockList<'a> {
@@ -31,30 +32,22 @@ impl<'a> ClockList<'a> {
     ) -> Result<(), Refusal>
         ensures { Fills n (length records.now) (KeptAt n records.now clocks.now) (clock_list self.new ≡ by_clocks n records.now clocks.now) (self.new ≡ self.old) result }
     {
-        if !is_sized(n, records.len()) {
-            return Err(Refusal::UnlawfulList { fault: 0 });
-        }
-        for (i, fault) in records.iter().enumerate() {
-            if !keeps(n, *fault, clocks) {
-                return Err(Refusal::UnlawfulList { fault: i + 1 });
-            }
-        }
-        *self = ClockList::of(n, records, clocks);
+        *self = ClockList::of(n, records, clocks)?;
         Ok(())
     }
 
     // The list that the memory means, where it keeps the rules.
-    fn of(n: usize, records: &'a [FaultRecord], clocks: &'a [u16]) -> Self
-        requires { Follows n (length records.now) (KeptAt n records.now clocks.now) }
-        ensures { clock_list result ≡ by_clocks n records.now clocks.now }
+    fn of(n: usize, records: &'a [FaultRecord], clocks: &'a [u16]) -> Result<Self, Refusal>
+        ensures { Makes n (length records.now) (KeptAt n records.now clocks.now) (λ list. clock_list list ≡ by_clocks n records.now clocks.now) result }
     {
-        ClockList { n, records, clocks }
+        check(n, records.len(), |i| keeps(n, records[i], clocks))?;
+        Ok(ClockList { n, records, clocks })
     }
 }
 
 // Whether a fault keeps the rules.
 fn keeps(n: usize, fault: FaultRecord, clocks: &[u16]) -> bool
-    ensures { Decides result (Kept n clocks.now fault) }
+    ensures { IsTrue result ↔ Kept n clocks.now fault }
 {
     let start = fault.clocks.start;
     let len = fault.clocks.len;
@@ -66,7 +59,7 @@ fn keeps(n: usize, fault: FaultRecord, clocks: &[u16]) -> bool
 
 // Whether the clocks rise and stay below n.
 fn rises(n: usize, clocks: &[u16]) -> bool
-    ensures { Decides result (Below n clocks.now × Rising clocks.now) }
+    ensures { IsTrue result ↔ (Below n clocks.now × Rising clocks.now) }
 {
     let mut least = 0;
     for c in clocks {

@@ -1,12 +1,13 @@
 // Making a row list, and filling it from memory.
-ghost use Rattle.std.specs.Prelude.{◌≡◌, ◌<◌, ◌≤◌, length, Decides};
+ghost use Rattle.std.specs.Prelude.{◌≡◌, ◌<◌, ◌≤◌, ◌↔◌, length, IsTrue};
 ghost use Rattle.faults.specs.Meaning.{empty};
 ghost use Rattle.faults.specs.Rows.{RowKept, by_rows};
 ghost use Rattle.faults.specs.RowLists.{row_list};
-ghost use Rattle.faults.specs.Filling.{Follows, Fills};
+ghost use Rattle.faults.specs.Filling.{Fills, Makes};
 
 use super::{RowList, row_bytes};
-use crate::sizes::{MAX_CLASS, is_sized};
+use crate::checking::check;
+use crate::sizes::MAX_CLASS;
 use refusal::Refusal;
 
 impl<'a> RowList<'a> {
@@ -25,31 +26,24 @@ impl<'a> RowList<'a> {
     pub fn fill(&mut self, n: usize, classes: &'a [u8], rows: &'a [u8]) -> Result<(), Refusal>
         ensures { Fills n (length classes.now) (RowKept n classes.now rows.now) (row_list self.new ≡ by_rows n classes.now rows.now) (self.new ≡ self.old) result }
     {
-        if !is_sized(n, classes.len()) {
-            return Err(Refusal::UnlawfulList { fault: 0 });
-        }
-        for i in 0..classes.len() {
-            if !keeps(n, classes, rows, i) {
-                return Err(Refusal::UnlawfulList { fault: i + 1 });
-            }
-        }
-        *self = RowList::of(n, classes, rows);
+        *self = RowList::of(n, classes, rows)?;
         Ok(())
     }
 
     // The list that the memory means, where it keeps the rules.
-    fn of(n: usize, classes: &'a [u8], rows: &'a [u8]) -> Self
-        requires { Follows n (length classes.now) (RowKept n classes.now rows.now) }
-        ensures { row_list result ≡ by_rows n classes.now rows.now }
+    fn of(n: usize, classes: &'a [u8], rows: &'a [u8]) -> Result<Self, Refusal>
+        ensures { Makes n (length classes.now) (RowKept n classes.now rows.now) (λ list. row_list list ≡ by_rows n classes.now rows.now) result }
     {
-        RowList { n, classes, rows }
+        check(n, classes.len(), |i| keeps(n, classes, rows, i))?;
+        Ok(RowList { n, classes, rows })
     }
 }
 
-// Whether the fault at place i keeps the rules.
+// Whether the fault at place i keeps the rules; its row is there if the memory has more than i whole rows.
 fn keeps(n: usize, classes: &[u8], rows: &[u8], i: usize) -> bool
-    requires { (1 ≤ n) × ((n ≤ 4096) × ((i < length classes.now) × (length classes.now ≤ 200))) }
-    ensures { Decides result (RowKept n classes.now rows.now i) }
+    requires some { 1 ≤ n }
+    requires within { i < length classes.now }
+    ensures { IsTrue result ↔ RowKept n classes.now rows.now i }
 {
-    classes[i] <= MAX_CLASS && (i + 1) * row_bytes(n) <= rows.len()
+    classes[i] <= MAX_CLASS && i < rows.len() / row_bytes(n)
 }

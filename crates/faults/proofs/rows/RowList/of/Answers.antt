@@ -1,14 +1,25 @@
-use Rattle.std.proofs.Common.{length}
+use Rattle.std.proofs.Common.{length, rules}
+use Rattle.faults.specs.Rows.{RowKept}
 use Rattle.faults.proofs.RowLists.{rows_room, classes_all}
+use Rattle.faults.proofs.Filling.{follows, breaks}
 use Rattle.faults.proofs.rows.RowList.of.Goals as goal
+
+pub returns-in_err-check : goal.returns-in_err-check
+returns-in_err-check c =
+    let cs = c.args.classes.now in
+    let refused = breaks c.args.n (length cs) (RowKept c.args.n cs c.args.rows.now) _ c.in_err-check.ensures (λ i l t. search rules) (λ i l t. search rules) in
+    search (rules, refused)
 
 pub invariant_of-result : goal.invariant_of-result
 invariant_of-result c =
+    let n = c.args.n in
     let cs = c.args.classes.now in
-    let sized = c.requires.sized in record {
-      some = sized.some;
-      most = sized.most;
-      few = sized.few;
-      classed = classes_all cs (λ k l. (c.requires.each k l).class);
-      room = rows_room c.args.n (length cs) (length c.args.rows.now) (λ k l. (c.requires.each k l).within);
+    let rs = c.args.rows.now in
+    let rules_kept = follows n (length cs) (RowKept n cs rs) c.in_ok-check.ensures (λ i l t. search rules) in
+    record {
+      some = rules_kept.sized.some;
+      most = rules_kept.sized.most;
+      few = rules_kept.sized.few;
+      classed = classes_all cs (λ k l. (rules_kept.each k l).class);
+      room = rows_room n (length cs) (length rs) (λ k l. (rules_kept.each k l).within);
     }
