@@ -53,15 +53,6 @@ rising_far cs h i (suc d) l =
 rising_order : (cs : List ℕ) → Rising cs → (i k : ℕ) → i < k → k < length cs → get_or cs i 0 < get_or cs k 0
 rising_order cs h i k l m = let e : i + suc (k - i - 1) ≡ k = omega arith in subst (λ x. get_or cs i 0 < get_or cs x 0) e (rising_far cs h i (k - i - 1) (omega arith))
 
--- a clock that is not above the one before it
-pub too_low : (cs : List ℕ) (i least clock : ℕ) → (i ≡ 0 → least ≡ 0) → ((k : ℕ) → k + 1 ≡ i → least ≡ get_or cs k 0 + 1) → clock ≡ get_or cs i 0 → clock < least → i < length cs → Rising cs → ⊥
-too_low cs zero least clock z s e l h r = omega (arith, z refl)
-too_low cs (suc i) least clock z s e l h r =
-    let n : i + 1 ≡ suc i = omega arith in
-    let a = s i n in
-    let b = subst (λ x. get_or cs i 0 < get_or cs x 0) n (r i (omega arith)) in
-    omega arith
-
 -- sum is what the first i clocks pick: those below some b, and no later one is below b
 pub record Picked (n i sum : ℕ) (table cs : List ℕ) : Type 0 where
   pub bound : ℕ

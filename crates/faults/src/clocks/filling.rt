@@ -49,25 +49,19 @@ impl<'a> ClockList<'a> {
 fn keeps(n: usize, fault: FaultRecord, clocks: &[u16]) -> bool
     ensures { IsTrue result ↔ Kept n clocks.now fault }
 {
-    let start = fault.clocks.start;
-    let len = fault.clocks.len;
-    if MAX_CLASS < fault.class || clocks.len() < start || clocks.len() - start < len {
-        return false;
-    }
-    rises(n, &clocks[start..start + len])
+    fault.class <= MAX_CLASS && fault.clocks.part(clocks).is_some_and(|part| rises(part) && stays_below(n, part))
 }
 
-// Whether the clocks rise and stay below n.
-fn rises(n: usize, clocks: &[u16]) -> bool
-    ensures { IsTrue result ↔ (Below n clocks.now × Rising clocks.now) }
+// Whether the clocks rise.
+fn rises(clocks: &[u16]) -> bool
+    ensures { IsTrue result ↔ Rising clocks.now }
 {
-    let mut least = 0;
-    for c in clocks {
-        let clock = *c as usize;
-        if clock < least || n <= clock {
-            return false;
-        }
-        least = clock + 1;
-    }
-    true
+    clocks.windows(2).all(|pair| pair[0] < pair[1])
+}
+
+// Whether they stay below n.
+fn stays_below(n: usize, clocks: &[u16]) -> bool
+    ensures { IsTrue result ↔ Below n clocks.now }
+{
+    clocks.iter().all(|clock| usize::from(*clock) < n)
 }
