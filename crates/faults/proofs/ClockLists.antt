@@ -1,43 +1,34 @@
 -- The clocks of a fault, one by one, and the entries of a clock list.
-use Rattle.std.proofs.Common.{◌≡◌, ℕ, zero, suc, ◌+◌, ◌-◌, ◌<◌, ◌≤◌, Bool, true, false, cond, eqb, ltb, ◌⊎◌, List, [], ◌∷◌, map, length, get_or, sym, refl, ap, ◌∙◌, subst, inl, inr, arith}
+use Rattle.std.proofs.Common.{◌≡◌, ℕ, zero, suc, ◌+◌, ◌-◌, ◌<◌, ◌≤◌, true, false, eqb, ◌⊎◌, List, [], ◌∷◌, map, length, get_or, sym, refl, ap, ◌∙◌, subst, inl, inr, arith}
 use native.Mathlib.Decide.{dec_lt}
 use lib.Bits.{bit_xor}
 use Rattle.std.proofs.lemmas.Bool.{eq-eqb, ne_eqb, cases_order}
+use Rattle.std.proofs.lemmas.List.Elements.{All-from_get_or}
+use Rattle.std.proofs.lemmas.List.Folds.{list_any_at, list_any_none}
 use Rattle.std.proofs.lemmas.List.{get_or-map, get_or_past, length-map}
-use Rattle.gf2.specs.Polynomials.{coefficient}
 use Rattle.gf2.specs.Responses.{response}
 use Rattle.gf2.specs.Tables.{combination}
-use Rattle.faults.specs.Meaning.{Fault, good, entry}
+use Rattle.faults.specs.Meaning.{Fault, Faults, good, entry, wrong}
 use Rattle.faults.specs.Clocks.{among, blank, part, recorded, by_clocks, Below, Rising, Kept}
 use Rattle.faults.specs.Picking.{picked}
 use Rattle.faults.specs.declared.fault_record.FaultRecord.{FaultRecord}
-use Rattle.faults.proofs.Errors.{wrong_response, wrong_past, response_quiet, picked_wrong, picked_quiet, picked_all}
+use Rattle.faults.proofs.Errors.{wrong_error, wrong_past, response_quiet, picked_wrong, picked_quiet, picked_all}
 
 -- ---- membership
 
 pub among_at : (cs : List ℕ) (k j : ℕ) → k < length cs → get_or cs k 0 ≡ j → among cs j ≡ true
-unfolding among
-among_at [] k j h e = absurd (omega arith)
-among_at (c ∷ cs) zero j h e = ap (λ b. cond b true (among cs j)) (eq-eqb c j e)
-among_at (c ∷ cs) (suc k) j h e = by (eqb c j) (among cs j) (among_at cs k j (omega arith) e)
-  where
-    by : (b t : Bool) → t ≡ true → cond b true t ≡ true
-    by true t e = refl
-    by false t e = e
+among_at cs k j h e = list_any_at (λ c. eqb c j) cs k 0 h (eq-eqb (get_or cs k 0) j e)
 
 pub among_none : (cs : List ℕ) (j : ℕ) → ((k : ℕ) → k < length cs → get_or cs k 0 ≡ j → ⊥) → among cs j ≡ false
-unfolding among
-among_none [] j h = refl
-among_none (c ∷ cs) j h =
-    ap (λ b. cond b true (among cs j)) (ne_eqb c j (h 0 (omega arith))) ∙ among_none cs j (λ k l. h (suc k) (omega arith))
+among_none cs j h = list_any_none (λ c. eqb c j) cs (All-from_get_or (λ c. eqb c j ≡ false) cs 0 (λ k l. ne_eqb (get_or cs k 0) j (h k l)))
 
--- what the clocks say of a clock, the error says
-pub among_wrong : (n : ℕ) (cs : List ℕ) (j : ℕ) → Below n cs → among cs j ≡ cond (ltb j n) (eqb (coefficient (response n (among cs)) (n - 1 - j)) 1) false
-among_wrong n cs j h = by (dec_lt j n)
+-- where the error of an entry is the response that is 1 at the clocks, they say where it is wrong
+pub among_wrong : (m : Faults) (i : ℕ) (cs : List ℕ) → Below m.clocks cs → (entry m i).error ≡ response m.clocks (among cs) → (j : ℕ) → among cs j ≡ wrong m i j
+among_wrong m i cs h e j = by (dec_lt j m.clocks)
   where
-    by : Dec (j < n) → among cs j ≡ cond (ltb j n) (eqb (coefficient (response n (among cs)) (n - 1 - j)) 1) false
-    by (yes l) = sym (wrong_response n (among cs) j l)
-    by (no l) = among_none cs j (λ k g e. omega (arith, h k g)) ∙ sym (wrong_past n (response n (among cs)) j (omega arith))
+    by : Dec (j < m.clocks) → among cs j ≡ wrong m i j
+    by (yes l) = wrong_error m i (among cs) e j l
+    by (no l) = among_none cs j (λ k g e. omega (arith, h k g)) ∙ sym (wrong_past m.clocks (entry m i).error j (omega arith))
 
 -- ---- the clocks one by one
 

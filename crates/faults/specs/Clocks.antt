@@ -1,5 +1,6 @@
 -- A list that holds the wrong clocks of each fault as rising numbers. Assumes nothing.
-use Rattle.std.specs.Prelude.{ℕ, ◌+◌, ◌<◌, ◌≤◌, Bool, true, false, cond, List, [], ◌∷◌, map, length, take, drop, ◌==◌, slice_index, slice_index_or}
+use Rattle.std.specs.Prelude.{ℕ, ◌+◌, ◌<◌, ◌≤◌, Bool, List, map, length, take, drop, ◌==◌, slice_index, slice_index_or}
+use Rattle.std.specs.List.{list_any}
 use Rattle.gf2.specs.Responses.{response}
 use Rattle.faults.specs.Meaning.{Fault, Faults}
 use Rattle.faults.specs.declared.fault_record.Span.{Span}
@@ -14,9 +15,8 @@ abbrev pub part : List ℕ → Span → List ℕ
 part memory s = take s.len (drop s.start memory)
 
 -- whether j is one of the clocks
-unfoldable pub among : List ℕ → ℕ → Bool
-among [] j = false
-among (c ∷ cs) j = cond (c == j) true (among cs j)
+abbrev pub among : List ℕ → ℕ → Bool
+among cs j = list_any (λ c. c == j) cs
 
 abbrev pub Below : ℕ → List ℕ → Type 0
 Below n cs = (k : ℕ) → k < length cs → slice_index cs k < n

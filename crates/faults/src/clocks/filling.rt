@@ -49,7 +49,11 @@ impl<'a> ClockList<'a> {
 fn keeps(n: usize, fault: FaultRecord, clocks: &[u16]) -> bool
     ensures { IsTrue result ↔ Kept n clocks.now fault }
 {
-    fault.class <= MAX_CLASS && fault.clocks.part(clocks).is_some_and(|part| rises(part) && stays_below(n, part))
+    fault.class <= MAX_CLASS
+        && fault
+            .clocks
+            .part(clocks)
+            .is_some_and(|part| rises(part) && stays_below(n, part))
 }
 
 // Whether the clocks rise.

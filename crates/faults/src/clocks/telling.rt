@@ -63,10 +63,7 @@ impl<'a> ClockList<'a> {
         ensures below { Below self.now.n result.now }
         ensures rising { Rising result.now }
     {
-        let clocks = self.record_of(i).clocks;
-        let start = clocks.start;
-        let end = start + clocks.len;
-        &self.clocks[start..end]
+        self.record_of(i).clocks.part(self.clocks).unwrap()
     }
 }
 
@@ -74,12 +71,7 @@ impl<'a> ClockList<'a> {
 fn is_among(clocks: &[u16], clock: usize) -> bool
     ensures { result ≡ among clocks.now clock }
 {
-    for c in clocks {
-        if *c as usize == clock {
-            return true;
-        }
-    }
-    false
+    clocks.iter().any(|c| usize::from(*c) == clock)
 }
 
 // What the response that is 1 at these clocks picks from a table.
