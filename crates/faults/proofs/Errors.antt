@@ -1,12 +1,12 @@
 -- An error, clock by clock.
-use Rattle.std.proofs.Common.{◌≡◌, ℕ, zero, suc, ◌+◌, ◌-◌, ◌*◌, ◌^◌, ◌<◌, ◌≤◌, min, Bool, true, false, cond, eqb, ltb, List, length, get_or, sym, refl, ap, ◌∙◌, ap₂, add-zero, mul_assoc, mul_comm, add-mul, one-mul, zero-mul, mul-one, arith, pow_pos, pow_mono, le-ltb, lt-ltb}
+use Rattle.std.proofs.Common.{◌≡◌, ℕ, zero, suc, ◌+◌, ◌-◌, ◌*◌, ◌/◌, ◌%◌, ◌^◌, ◌<◌, ◌≤◌, min, Bool, true, false, cond, eqb, ltb, List, [], ◌∷◌, length, get_or, take, sym, refl, ap, ◌∙◌, ap₂, add-zero, mul_assoc, mul_comm, add-mul, one-mul, zero-mul, mul-one, arith, pow_pos, pow_mono, le-ltb, lt-ltb}
 use native.Mathlib.Nat.{min-eq_left, min-eq_right}
 use native.Mathlib.Decide.{dec_lt}
 use lib.Bits.{bit_xor, xor_shifted}
 use Rattle.gf2.specs.Polynomials.{coefficient, residue}
 use Rattle.gf2.specs.Responses.{bit, response}
 use Rattle.gf2.specs.Tables.{combination, Powers}
-use Rattle.gf2.proofs.Responses.{response_none, response_more, response_same, response_coefficient, response_of}
+use Rattle.gf2.proofs.Responses.{response_none, response_below, response_more, response_same, response_coefficient, response_of}
 use Rattle.gf2.proofs.Tables.{combination_zero, combination_xor, combination_power}
 use Rattle.faults.specs.Meaning.{Faults, Lawful, entry, wrong, combined}
 use Rattle.faults.specs.Picking.{front, picked}
@@ -110,6 +110,18 @@ module _ (n : ℕ) (table : List ℕ) (w : ℕ → Bool) where
   picked_quiet j (suc d) h =
       let e : j + suc d ≡ j + d + 1 = omega arith in
       ap (picked n table w) e ∙ picked_right (j + d) (h d (omega arith)) ∙ picked_quiet j d (λ k l. h k (omega arith))
+
+-- ---- the words of the n clocks are enough
+
+combination_front : (ts : List ℕ) (n p : ℕ) → p < 2 ^ n → combination (take n ts) p ≡ combination ts p
+unfolding combination
+combination_front [] zero p h = refl
+combination_front [] (suc n) p h = refl
+combination_front (t ∷ ts) zero p h = let z : p ≡ 0 = omega arith in sym (ap (combination (t ∷ ts)) z ∙ combination_zero (t ∷ ts))
+combination_front (t ∷ ts) (suc n) p h = ap (bit_xor (p % 2 * t)) (combination_front ts n (p / 2) (omega arith))
+
+pub combination_take : (table : List ℕ) (n : ℕ) (w : ℕ → Bool) → combination (take n table) (response n w) ≡ combination table (response n w)
+combination_take table n w = combination_front table n (response n w) (response_below n w)
 
 -- ---- the residue of an error
 

@@ -33,11 +33,12 @@ impl<'a> FaultList for ClockList<'a> {
     }
 
     // One word for each wrong clock.
+    #[tactic(auto, using(crate::proofs::Errors::combination_take))]
     fn combine(&self, i: usize, table: &[u32]) -> u32 {
-        if table.len() < self.n {
+        let Some(words) = table.get(..self.n) else {
             return 0;
-        }
-        pick(self.clocks_of(i), self.n, table)
+        };
+        pick(self.clocks_of(i), words)
     }
 }
 
@@ -74,14 +75,15 @@ fn is_among(clocks: &[u16], clock: usize) -> bool
     clocks.iter().any(|c| usize::from(*c) == clock)
 }
 
-// What the response that is 1 at these clocks picks from a table.
-fn pick(clocks: &[u16], n: usize, table: &[u32]) -> u32
-    requires { (Below n clocks.now) × ((Rising clocks.now) × (n ≤ length table.now)) }
-    ensures { result ≡ combination table.now (response n (among clocks.now)) }
+// What the response that is 1 at these clocks picks from its words.
+fn pick(clocks: &[u16], words: &[u32]) -> u32
+    requires below { Below (length words.now) clocks.now }
+    requires rising { Rising clocks.now }
+    ensures { result ≡ combination words.now (response (length words.now) (among clocks.now)) }
 {
     let mut sum = 0;
-    for c in clocks {
-        sum ^= table[n - 1 - *c as usize];
+    for clock in clocks {
+        sum ^= words[words.len() - 1 - usize::from(*clock)];
     }
     sum
 }
