@@ -1,5 +1,6 @@
 -- An error, clock by clock.
 use Rattle.std.proofs.Common.{◌≡◌, ℕ, zero, suc, ◌+◌, ◌-◌, ◌*◌, ◌/◌, ◌%◌, ◌^◌, ◌<◌, ◌≤◌, min, Bool, true, false, cond, eqb, ltb, List, [], ◌∷◌, length, get_or, take, sym, refl, ap, ◌∙◌, ap₂, add-zero, mul_assoc, mul_comm, add-mul, one-mul, zero-mul, mul-one, arith, pow_pos, pow_mono, le-ltb, lt-ltb}
+use Rattle.std.proofs.lemmas.List.{length-take-le}
 use native.Mathlib.Nat.{min-eq_left, min-eq_right}
 use native.Mathlib.Decide.{dec_lt}
 use lib.Bits.{bit_xor, xor_shifted}
@@ -122,6 +123,16 @@ combination_front (t ∷ ts) (suc n) p h = ap (bit_xor (p % 2 * t)) (combination
 
 pub combination_take : (table : List ℕ) (n : ℕ) (w : ℕ → Bool) → combination (take n table) (response n w) ≡ combination table (response n w)
 combination_take table n w = combination_front table n (response n w) (response_below n w)
+
+-- what an error picks, it picks from those
+pub combined_take : (m : Faults) (i : ℕ) (table words : List ℕ) → Lawful m → words ≡ take m.clocks table → m.clocks ≤ length table
+    → combination words (response (length words) (wrong m i)) ≡ combined m i table
+combined_take m i table words lawful is enough =
+    let long : length words ≡ m.clocks = ap length is ∙ length-take-le m.clocks table enough in
+    ap₂ (λ ts n. combination ts (response n (wrong m i))) is long
+    ∙ combination_take table m.clocks (wrong m i)
+    ∙ ap (combination table) (error_of m i lawful)
+    ∙ sym (ap (λ b. cond b 0 (combination table (entry m i).error)) (le-ltb (length table) m.clocks enough))
 
 -- ---- the residue of an error
 

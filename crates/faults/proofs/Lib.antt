@@ -2,3 +2,4 @@ pub mod Errors
 pub mod ClockLists
 pub mod RowLists
 pub mod Filling
+pub mod Words

@@ -5,6 +5,7 @@ mod checking;
 mod clocks;
 mod fault_record;
 mod list;
+mod picking;
 mod rows;
 mod sizes;
 

@@ -2,6 +2,8 @@
 ghost use Rattle.std.specs.Prelude.{◌≡◌, ◌≤◌, length};
 ghost use Rattle.faults.specs.Meaning.{Faults, Lawful, entry, wrong, combined};
 
+use crate::picking::pick;
+
 // Entry 0 is the good board, and entry i is fault i. Any number may be asked about: past the last entry the good board stands again.
 pub trait FaultList {
     // the length, and the class and the error of each fault
@@ -30,17 +32,10 @@ pub trait FaultList {
     fn combine(&self, i: usize, table: &[u32]) -> u32
         ensures { result ≡ combined (means self.now) i table.now }
     {
-        let n = self.clocks();
-        if table.len() < n {
+        let Some(words) = table.get(..self.clocks()) else {
             return 0;
-        }
-        let mut sum = 0;
-        for clock in 0..n {
-            if self.wrong(i, clock) {
-                sum ^= table[n - 1 - clock];
-            }
-        }
-        sum
+        };
+        pick(words, |clock| self.wrong(i, clock))
     }
 
     // Every list keeps the rules.
