@@ -3,3 +3,4 @@ pub mod ClockLists
 pub mod RowLists
 pub mod Filling
 pub mod Words
+pub mod Parts

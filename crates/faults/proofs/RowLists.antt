@@ -1,15 +1,21 @@
 -- The entries of a row list.
-use Rattle.std.proofs.Common.{◌≡◌, ℕ, zero, suc, ◌+◌, ◌-◌, ◌*◌, ◌/◌, ◌%◌, ◌<◌, ◌≤◌, false, eqb, ◌⊎◌, List, [], ◌∷◌, map, length, get_or, take, drop, length-drop, sym, refl, ap, ◌∙◌, subst, ap₂, inl, inr, zero-mul, arith, pow_pos}
+use Rattle.std.proofs.Common.{◌≡◌, ℕ, zero, suc, ◌+◌, ◌-◌, ◌*◌, ◌/◌, ◌%◌, ◌<◌, ◌≤◌, min, Bool, false, eqb, ◌++◌, length-append, add-one, ◌⊎◌, List, [], ◌∷◌, map, length, get_or, take, drop, length-drop, sym, refl, ap, ◌∙◌, subst, ap₂, inl, inr, zero-mul, arith, pow_pos}
 use native.Mathlib.Nat.{div-eq_of_lt}
 use native.Mathlib.Decide.{dec_lt}
 use Rattle.std.specs.List.{range_with_len}
 use Rattle.std.proofs.lemmas.List.FromFn.{length-map-range_with_len, get_or-map-range_with_len}
-use Rattle.std.proofs.lemmas.List.{get_or_past, take_all}
+use Rattle.std.proofs.lemmas.List.{get_or_past, take_all, length-take, length-take-le}
+use Rattle.std.proofs.Math.Seq.{take-add, drop-cons}
 use Rattle.gf2.specs.Polynomials.{coefficient}
 use Rattle.gf2.specs.Responses.{response}
 use Rattle.faults.specs.Meaning.{Fault, good, entry}
 use Rattle.faults.specs.Rows.{stride, marked, rowed, by_rows}
+use Rattle.gf2.specs.Tables.{combination}
+use Rattle.gf2.proofs.Responses.{response_same}
+use Rattle.gf2.proofs.Tables.{combination_zero}
 use Rattle.faults.proofs.Errors.{response_quiet}
+use Rattle.faults.proofs.Parts.{combination_parts}
+use lib.Bits.{bit_xor, xor_assoc, xor_zero_r}
 
 zero_coefficient : (i : ℕ) → eqb (coefficient 0 i) 1 ≡ false
 zero_coefficient i = ap (λ x. eqb (x % 2) 1) (div-eq_of_lt (pow_pos i))
@@ -75,12 +81,99 @@ classes_all cs h i = by (dec_lt i (length cs))
 
 -- ---- one byte of a row
 
-pub marked_byte : (bytes : List ℕ) (b k : ℕ) → k < 8 → marked bytes (8 * b + k) ≡ eqb (coefficient (get_or bytes b 0) (7 - k)) 1
-marked_byte bytes b k h =
-    let q : (8 * b + k) / 8 ≡ b = omega arith in
-    let r : (8 * b + k) % 8 ≡ k = omega arith in
-    ap₂ (λ x y. eqb (coefficient (get_or bytes x 0) (7 - y)) 1) q r
+-- where a byte has a 1, from its highest bit
+abbrev pub marks : ℕ → ℕ → Bool
+marks byte k = eqb (coefficient byte (7 - k)) 1
 
--- a zero byte marks no clock
-pub zero_byte : (bytes : List ℕ) (b : ℕ) → get_or bytes b 0 ≡ 0 → (k : ℕ) → k < 8 → marked bytes (8 * b + k) ≡ false
-zero_byte bytes b e k h = marked_byte bytes b k h ∙ ap (λ x. eqb (coefficient x (7 - k)) 1) e ∙ zero_coefficient (7 - k)
+marked_first : (byte : ℕ) (bytes : List ℕ) (k : ℕ) → k < 8 → marked (byte ∷ bytes) k ≡ marks byte k
+marked_first byte bytes k h =
+    let q : k / 8 ≡ 0 = omega arith in
+    let r : k % 8 ≡ k = omega arith in
+    ap₂ (λ x y. eqb (coefficient (get_or (byte ∷ bytes) x 0) (7 - y)) 1) q r
+
+marked_later : (byte : ℕ) (bytes : List ℕ) (k : ℕ) → marked (byte ∷ bytes) (8 + k) ≡ marked bytes k
+marked_later byte bytes k =
+    let q : (8 + k) / 8 ≡ suc (k / 8) = omega arith in
+    let r : (8 + k) % 8 ≡ k % 8 = omega arith in
+    ap₂ (λ x y. eqb (coefficient (get_or (byte ∷ bytes) x 0) (7 - y)) 1) q r
+
+-- the words of the byte at a place, and those before them
+words_at : List ℕ → ℕ → List ℕ
+words_at words place =
+    let low = length words - 8 * (place + 1) in
+    take (length words - 8 * place - low) (drop low words)
+
+length-words_at : (words : List ℕ) (place : ℕ) → length (words_at words place) ≡ min 8 (length words - 8 * place)
+unfolding words_at
+length-words_at words place =
+    let low = length words - 8 * (place + 1) in
+    omega (arith, length-take (length words - 8 * place - low) (drop low words), length-drop low words)
+
+words_cut : (words : List ℕ) (place : ℕ) → take (length words - 8 * (place + 1)) words ++ words_at words place ≡ take (length words - 8 * place) words
+unfolding words_at
+words_cut words place =
+    let low = length words - 8 * (place + 1) in
+    let high : low + (length words - 8 * place - low) ≡ length words - 8 * place = omega arith in
+    sym (take-add low (length words - 8 * place - low) words) ∙ ap (λ k. take k words) high
+
+-- a byte picks from its words, and the other bytes pick from the words before those
+module _ (front eight : List ℕ) (byte : ℕ) (bytes : List ℕ) (long : length eight ≡ min 8 (length (front ++ eight))) where
+  pub picked_byte : combination (front ++ eight) (response (length (front ++ eight)) (marked (byte ∷ bytes)))
+      ≡ bit_xor (combination eight (response (length eight) (marks byte))) (combination front (response (length front) (marked bytes)))
+  picked_byte =
+      let all = length-append front eight in
+      combination_parts front eight (marked (byte ∷ bytes))
+      ∙ ap₂ (λ p q. bit_xor (combination eight p) (combination front q))
+      (response_same (length eight) (marked (byte ∷ bytes)) (marks byte) (λ k l. marked_first byte bytes k (omega arith)))
+      (response_same (length front) (λ k. marked (byte ∷ bytes) (length eight + k)) (marked bytes)
+      (λ k l. let e : length eight + k ≡ 8 + k = omega arith in ap (marked (byte ∷ bytes)) e ∙ marked_later byte bytes k))
+
+-- what is left to pick, before a byte and after it
+module _ (words eight front : List ℕ) (row : List ℕ) (byte : ℕ) (bytes : List ℕ) (size sum whole : ℕ) where
+  pub left_after : (picks : ℕ) → picks ≡ combination eight (response (length eight) (marks byte))
+      → row ≡ byte ∷ bytes → words ≡ front ++ eight → length eight ≡ min size (length words) → size ≡ 8
+      → bit_xor sum (combination words (response (length words) (marked row))) ≡ whole
+      → bit_xor (bit_xor sum picks) (combination front (response (length front) (marked bytes))) ≡ whole
+  left_after picks is r w long e left =
+      let n : length eight ≡ min 8 (length (front ++ eight)) = long ∙ ap₂ (λ x y. min x (length y)) e w in
+      let rest = combination front (response (length front) (marked bytes)) in
+      xor_assoc sum picks rest
+      ∙ ap (bit_xor sum) (ap (λ x. bit_xor x rest) is ∙ sym (picked_byte front eight byte bytes n) ∙ sym (ap₂ (λ x y. combination x (response (length x) (marked y))) w r))
+      ∙ left
+
+  -- a byte of 0 picks nothing
+  pub left_same : byte ≡ 0 → row ≡ byte ∷ bytes → words ≡ front ++ eight → length eight ≡ min size (length words) → size ≡ 8
+      → bit_xor sum (combination words (response (length words) (marked row))) ≡ whole
+      → bit_xor sum (combination front (response (length front) (marked bytes))) ≡ whole
+  left_same none r w long e left =
+      let quiet : response (length eight) (marks byte) ≡ 0 = response_quiet (length eight) (marks byte) (λ k l. ap (λ b. marks b k) none ∙ zero_coefficient (7 - k)) in
+      let picks : combination eight (response (length eight) (marks byte)) ≡ 0 = ap (combination eight) quiet ∙ combination_zero eight in
+      ap (λ x. bit_xor x (combination front (response (length front) (marked bytes)))) (sym (xor_zero_r sum)) ∙ left_after 0 (sym picks) r w long e left
+
+-- what the bytes from a place on have still to pick, with what was picked, is the whole
+abbrev pub Left : List ℕ → List ℕ → ℕ → ℕ → Type 0
+Left words row place sum =
+    let front = take (length words - 8 * place) words in
+    bit_xor sum (combination front (response (length front) (marked (drop place row)))) ≡ combination words (response (length words) (marked row))
+
+module _ (words row : List ℕ) (place sum : ℕ) (within : place < length row) where
+  byte_first : drop place row ≡ get_or row place 0 ∷ drop (place + 1) row
+  byte_first = drop-cons row place 0 within ∙ ap (λ k. get_or row place 0 ∷ drop k row) (sym (add-one place))
+
+  left_long : (eight : List ℕ) → length eight ≡ min 8 (length words - 8 * place) → length eight ≡ min 8 (length (take (length words - 8 * place) words))
+  left_long eight e = e ∙ ap (min 8) (sym (length-take-le (length words - 8 * place) words (omega arith)))
+
+  pub left_more : (eight : List ℕ) (picks : ℕ) → take (length words - 8 * (place + 1)) words ++ eight ≡ take (length words - 8 * place) words
+      → length eight ≡ min 8 (length words - 8 * place) → picks ≡ combination eight (response (length eight) (marks (get_or row place 0)))
+      → Left words row place sum → Left words row (place + 1) (bit_xor sum picks)
+  left_more eight picks cut long is left = left_after _ _ _ _ _ _ 8 sum _ picks is byte_first (sym cut) (left_long eight long) refl left
+
+  pub left_zero : get_or row place 0 ≡ 0 → Left words row place sum → Left words row (place + 1) sum
+  left_zero none left = left_same _ _ _ _ _ _ 8 sum _ none byte_first (sym (words_cut words place)) (left_long (words_at words place) (length-words_at words place)) refl left
+
+pub left_end : (words row : List ℕ) (place sum : ℕ) → length row ≤ place → Left words row place sum → sum ≡ combination words (response (length words) (marked row))
+left_end words row place sum h left =
+    let front = take (length words - 8 * place) words in
+    let none : response (length front) (marked (drop place row)) ≡ 0 =
+    response_quiet (length front) (marked (drop place row)) (λ k l. unmarked (drop place row) k (omega (arith, length-drop place row))) in
+    sym (ap (bit_xor sum) (ap (combination front) none ∙ combination_zero front) ∙ xor_zero_r sum) ∙ left

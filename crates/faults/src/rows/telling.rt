@@ -1,16 +1,17 @@
 // What a row list tells.
-ghost use Rattle.std.specs.Prelude.{◌≡◌, ℕ, ◌+◌, ◌-◌, ◌<◌, ◌≤◌, Bool, length, ◌==◌, bit_xor};
+ghost use Rattle.std.specs.Prelude.{◌≡◌, ℕ, ◌+◌, ◌-◌, ◌<◌, ◌≤◌, Bool, length, ◌==◌, bit_xor, ◌*◌, ◌++◌, take, min};
 ghost use Rattle.gf2.specs.Polynomials.{coefficient};
 ghost use Rattle.gf2.specs.Responses.{response};
 ghost use Rattle.gf2.specs.Tables.{combination};
 ghost use Rattle.faults.specs.Meaning.{Lawful, entry, wrong};
 ghost use Rattle.faults.specs.Picking.{picked};
-ghost use Rattle.faults.specs.Rows.{marked};
+ghost use Rattle.faults.specs.Rows.{stride, marked};
 ghost use Rattle.faults.specs.RowLists.{row_list};
 ghost use Rattle.faults.specs.Lawful.{row_list_lawful};
 
 use super::{RowList, row_bytes};
 use crate::list::FaultList;
+use crate::picking::pick;
 
 impl<'a> FaultList for RowList<'a> {
     ghost means = { λ s. row_list s };
@@ -40,11 +41,12 @@ impl<'a> FaultList for RowList<'a> {
     }
 
     // Byte by byte.
+    #[tactic(auto, using(crate::proofs::Errors::combination_take))]
     fn combine(&self, i: usize, table: &[u32]) -> u32 {
-        if table.len() < self.n {
+        let Some(words) = table.get(..self.n) else {
             return 0;
-        }
-        pick(self.row_of(i), self.n, table)
+        };
+        pick_marked(self.row_of(i), words)
     }
 }
 
@@ -53,7 +55,7 @@ impl<'a> RowList<'a> {
     fn row_of(&self, i: usize) -> &[u8]
         ensures error { (entry (row_list self.now) i).error ≡ response self.now.n (marked result.now) }
         ensures wrong { (j : ℕ) → j < self.now.n → marked result.now j ≡ wrong (row_list self.now) i j }
-        ensures few { length result.now ≤ 512 }
+        ensures few { length result.now ≤ stride self.now.n }
     {
         if i == 0 || self.classes.len() < i {
             return &[];
@@ -82,31 +84,27 @@ fn bit(byte: u8, i: usize) -> bool
     (byte >> i) & 1 == 1
 }
 
-// What the response of n bits that is 1 where the row is picks from a table. Most bytes of most rows are 0.
-fn pick(row: &[u8], n: usize, table: &[u32]) -> u32
-    requires { (length row.now ≤ 512) × (n ≤ length table.now) }
-    ensures { result ≡ combination table.now (response n (marked row.now)) }
+// What the response that is 1 where the row is picks from its words. Most bytes of most rows are 0.
+fn pick_marked(row: &[u8], words: &[u32]) -> u32
+    requires { length row.now ≤ stride (length words.now) }
+    ensures { result ≡ combination words.now (response (length words.now) (marked row.now)) }
 {
+    // By place: to cut the words of a byte of 0 too, as rchunks does, takes half as long again.
     let mut sum = 0;
-    for (b, byte) in row.iter().enumerate() {
+    for (place, byte) in row.iter().enumerate() {
         if *byte != 0 {
-            sum ^= pick_byte(*byte, 8 * b, n, table);
+            sum ^= pick(words_of(words, place), |clock| bit(*byte, 7 - clock));
         }
     }
     sum
 }
 
-// What the eight clocks from `first` on add to that, if a byte has their bits.
-fn pick_byte(byte: u8, first: usize, n: usize, table: &[u32]) -> u32
-    requires { (first ≤ 4096) × (n ≤ length table.now) }
-    ensures { (w : ℕ → Bool) → ((k : ℕ) → k < 8 → w (first + k) ≡ (coefficient byte (7 - k) == 1)) → bit_xor (picked n table.now w first) result ≡ picked n table.now w (first + 8) }
+// The words of the byte at a place: eight, or as many as are left. The first byte has the last words.
+fn words_of(words: &[u32], place: usize) -> &[u32]
+    requires { 8 * place ≤ length words.now }
+    ensures cut { take (length words.now - 8 * (place + 1)) words.now ++ result.now ≡ take (length words.now - 8 * place) words.now }
+    ensures long { length result.now ≡ min 8 (length words.now - 8 * place) }
 {
-    let mut sum = 0;
-    for k in 0..8usize {
-        let clock = first + k;
-        if clock < n && bit(byte, 7 - k) {
-            sum ^= table[n - 1 - clock];
-        }
-    }
-    sum
+    let end = words.len() - 8 * place;
+    &words[end.saturating_sub(8)..end]
 }

@@ -22,8 +22,4 @@ returns c =
     let start = (c.args.i - 1) * k in
     let bytes = take k (take (length s.rows.now - start) (drop start s.rows.now)) in
     let e = row_error_at s.n s.classes.now s.rows.now c.args.i k (omega arith) (omega arith) c.row_bytes-stride.ensures in
-    record {
-      error = e;
-      wrong = λ j l. wrong_error (row_list s) c.args.i (marked bytes) e j l;
-      few = omega (arith, length-take k (take (length s.rows.now - start) (drop start s.rows.now)), s.most);
-    }
+    record { error = e; wrong = λ j l. wrong_error (row_list s) c.args.i (marked bytes) e j l; few = omega (arith, length-take k (take (length s.rows.now - start) (drop start s.rows.now))) }
