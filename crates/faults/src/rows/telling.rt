@@ -66,11 +66,11 @@ impl<'a> RowList<'a> {
 }
 
 // Whether a row has a 1 at a clock.
-#[tactic(auto, using(crate::proofs::RowLists::unmarked))]
 fn is_marked(row: &[u8], clock: usize) -> bool
     ensures { result ≡ marked row.now clock }
 {
-    row.get(clock / 8).is_some_and(|byte| bit(*byte, 7 - clock % 8))
+    row.get(clock / 8)
+        .is_some_and(|byte| bit(*byte, 7 - clock % 8))
 }
 
 // The bit of weight 2^i.

@@ -12,9 +12,6 @@ loop-clock-init c = record {
   after = λ k l m. omega arith;
 }
 
-pub overflow_sub-sum : goal.overflow_sub-sum
-overflow_sub-sum c = omega (arith, c.requires.below c.loop-clock.clock-index c.loop-clock-test.true)
-
 pub loop-clock-preserved : goal.loop-clock-preserved
 loop-clock-preserved c =
     rw c.from.ensures
