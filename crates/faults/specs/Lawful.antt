@@ -23,10 +23,10 @@ entry_each m P none each (suc i) = by (dec_lt i (length m.faults))
 
 pub clock_list_lawful : (s : ClockList) → Lawful (clock_list s)
 clock_list_lawful s = record {
-  some = s.some;
-  most = s.most;
-  few = rw length-map s.few;
-  class = each (λ x. x.class ≤ 99) (omega arith) s.classes;
+  some = s.sized.some;
+  most = s.sized.most;
+  few = rw length-map s.sized.few;
+  class = each (λ x. x.class ≤ 99) (omega arith) (λ k. (s.kept k).class);
   error = each (λ x. x.error < 2 ^ s.n) (pow_pos s.n) (λ k. response_below s.n (among (part s.clocks.now (get_or s.records.now k blank).clocks)));
 }
   where
