@@ -1,5 +1,5 @@
 -- The entries of a row list.
-use Rattle.std.proofs.Common.{◌≡◌, ℕ, zero, suc, ◌+◌, ◌-◌, ◌*◌, ◌/◌, ◌%◌, ◌<◌, ◌≤◌, min, Bool, false, eqb, ◌++◌, length-append, add-one, ◌⊎◌, List, [], ◌∷◌, map, length, get_or, take, drop, length-drop, sym, refl, ap, ◌∙◌, subst, ap₂, inl, inr, zero-mul, arith, pow_pos}
+use Rattle.std.proofs.Common.{◌≡◌, ℕ, zero, suc, ◌+◌, ◌-◌, ◌*◌, ◌/◌, ◌%◌, ◌<◌, ◌≤◌, min, Bool, false, eqb, ◌++◌, length-append, add-one, add-mul, one-mul, ◌⊎◌, List, [], ◌∷◌, map, length, get_or, take, drop, length-drop, sym, refl, ap, ◌∙◌, subst, ap₂, inl, inr, arith, pow_pos}
 use native.Mathlib.Nat.{div-eq_of_lt}
 use native.Mathlib.Decide.{dec_lt}
 use Rattle.std.specs.List.{range_with_len}
@@ -9,7 +9,8 @@ use Rattle.std.proofs.Math.Seq.{take-add, drop-cons}
 use Rattle.gf2.specs.Polynomials.{coefficient}
 use Rattle.gf2.specs.Responses.{response}
 use Rattle.faults.specs.Meaning.{Fault, good, entry}
-use Rattle.faults.specs.Rows.{stride, marked, rowed, by_rows}
+use Rattle.faults.specs.Filling.{Follows}
+use Rattle.faults.specs.Rows.{RowKept, stride, marked, rowed, by_rows}
 use Rattle.gf2.specs.Tables.{combination}
 use Rattle.gf2.proofs.Responses.{response_same}
 use Rattle.gf2.proofs.Tables.{combination_zero}
@@ -66,18 +67,14 @@ module _ (n : ℕ) (cs rs : List ℕ) where
           ap (λ (x : Fault). x.class) (get_or_past (map (rowed n cs rs) (range_with_len 0 (length cs))) i good (rw length-map-range_with_len (omega arith)))
           ∙ sym (get_or_past cs i 0 (omega arith))
 
--- ---- the memory of the rows
-
-pub rows_room : (n count long : ℕ) → ((i : ℕ) → i < count → (i + 1) * stride n ≤ long) → count * stride n ≤ long
-rows_room n zero long h = rw zero-mul (omega arith)
-rows_room n (suc count) long h = let e : count + 1 ≡ suc count = omega arith in subst (λ x. x * stride n ≤ long) e (h count (omega arith))
-
-pub classes_all : (cs : List ℕ) → ((k : ℕ) → k < length cs → get_or cs k 0 ≤ 99) → (i : ℕ) → get_or cs i 0 ≤ 99
-classes_all cs h i = by (dec_lt i (length cs))
-  where
-    by : Dec (i < length cs) → get_or cs i 0 ≤ 99
-    by (yes l) = h i l
-    by (no l) = rw (get_or_past cs i 0 (omega arith)) (omega arith)
+-- a row that lies within has all its bytes
+pub row_whole : (n i k : ℕ) (cs rs : List ℕ) → Follows n (length cs) (RowKept n cs rs) → i < length cs → k ≡ stride n
+    → k ≡ length (take k (take (length rs - i * k) (drop (i * k) rs)))
+row_whole n i k cs rs h l is =
+    let within : (i + 1) * k ≤ length rs = subst (λ x. (i + 1) * x ≤ length rs) (sym is) (h.each i l).within in
+    let more : (i + 1) * k ≡ i * k + k = add-mul i 1 k ∙ ap (λ x. i * k + x) (one-mul k) in
+    let rest = drop (i * k) rs in
+    omega (arith, length-take k (take (length rs - i * k) rest), length-take (length rs - i * k) rest, length-drop (i * k) rs)
 
 -- ---- one byte of a row
 

@@ -35,12 +35,14 @@ clock_list_lawful s = record {
 
 pub row_list_lawful : (s : RowList) → Lawful (row_list s)
 row_list_lawful s = record {
-  some = s.some;
-  most = s.most;
-  few = rw length-map-range_with_len s.few;
-  class = each (λ x. x.class ≤ 99) (omega arith) s.classed;
-  error = each (λ x. x.error < 2 ^ s.n) (pow_pos s.n) (λ k. response_below s.n (marked (row s.n s.rows.now k)));
+  some = s.follows.sized.some;
+  most = s.follows.sized.most;
+  few = rw length-map-range_with_len s.follows.sized.few;
+  class = each (λ x. x.class ≤ 99) (omega arith) (λ k l. (s.follows.each k l).class);
+  error = each (λ x. x.error < 2 ^ s.n) (pow_pos s.n) (λ k l. response_below s.n (marked (row s.n s.rows.now k)));
 }
   where
-    each : (P : Fault → Type 0) → P good → ((k : ℕ) → P (rowed s.n s.classes.now s.rows.now k)) → (i : ℕ) → P (entry (row_list s) i)
-    each P none kept = entry_each (row_list s) P none (λ k l. subst P (sym (get_or-map-range_with_len (rowed s.n s.classes.now s.rows.now) 0 (length s.classes.now) k k good (rw length-map-range_with_len at l) (omega arith))) (kept k))
+    each : (P : Fault → Type 0) → P good → ((k : ℕ) → k < length s.classes.now → P (rowed s.n s.classes.now s.rows.now k)) → (i : ℕ) → P (entry (row_list s) i)
+    each P none kept = entry_each (row_list s) P none (λ k l.
+        let within : k < length s.classes.now = rw length-map-range_with_len at l in
+        subst P (sym (get_or-map-range_with_len (rowed s.n s.classes.now s.rows.now) 0 (length s.classes.now) k k good within (omega arith))) (kept k within))

@@ -1,6 +1,7 @@
 // A fault list that holds n bits a fault in whole bytes, clock 0 in the highest bit of the first byte.
-ghost use Rattle.std.specs.Prelude.{◌≡◌, ℕ, ◌*◌, ◌≤◌, length, slice_index};
-ghost use Rattle.faults.specs.Rows.{stride};
+ghost use Rattle.std.specs.Prelude.{◌≡◌, length};
+ghost use Rattle.faults.specs.Filling.{Follows};
+ghost use Rattle.faults.specs.Rows.{RowKept, stride};
 
 mod filling;
 mod telling;
@@ -18,9 +19,5 @@ pub struct RowList<'a> {
     n: usize,
     classes: &'a [u8],
     rows: &'a [u8],
-    ghost some: { 1 ≤ n },
-    ghost most: { n ≤ 4096 },
-    ghost few: { length classes.now ≤ 200 },
-    ghost classed: { (i : ℕ) → slice_index classes.now i ≤ 99 },
-    ghost room: { length classes.now * stride n ≤ length rows.now },
+    ghost follows: { Follows n (length classes.now) (RowKept n classes.now rows.now) },
 }

@@ -1,6 +1,5 @@
 use Rattle.std.proofs.Common.{length, rules}
 use Rattle.faults.specs.Rows.{RowKept}
-use Rattle.faults.proofs.RowLists.{rows_room, classes_all}
 use Rattle.faults.proofs.Filling.{follows, breaks}
 use Rattle.faults.proofs.rows.RowList.of.Goals as goal
 
@@ -12,14 +11,5 @@ returns-in_err-check c =
 
 pub invariant_of-result : goal.invariant_of-result
 invariant_of-result c =
-    let n = c.args.n in
     let cs = c.args.classes.now in
-    let rs = c.args.rows.now in
-    let rules_kept = follows n (length cs) (RowKept n cs rs) c.in_ok-check.ensures (λ i l t. search rules) in
-    record {
-      some = rules_kept.sized.some;
-      most = rules_kept.sized.most;
-      few = rules_kept.sized.few;
-      classed = classes_all cs (λ k l. (rules_kept.each k l).class);
-      room = rows_room n (length cs) (length rs) (λ k l. (rules_kept.each k l).within);
-    }
+    record { follows = follows c.args.n (length cs) (RowKept c.args.n cs c.args.rows.now) c.in_ok-check.ensures (λ i l t. search rules) }

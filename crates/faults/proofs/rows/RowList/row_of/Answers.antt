@@ -4,7 +4,7 @@ use Rattle.faults.specs.Meaning.{Fault}
 use Rattle.faults.specs.Rows.{marked}
 use Rattle.faults.specs.RowLists.{row_list}
 use Rattle.faults.proofs.Errors.{wrong_error}
-use Rattle.faults.proofs.RowLists.{row_entry_none, row_error_at}
+use Rattle.faults.proofs.RowLists.{row_entry_none, row_error_at, row_whole}
 use Rattle.faults.proofs.rows.RowList.row_of.Goals as goal
 use Rattle.faults.proofs.rows.RowList.row_of.Goals.{then-i-eq0-via-then-i-eq0, then-i-eq0-via-else-i-eq0+then-self-i}
 
@@ -14,6 +14,11 @@ returns-then-i-eq0 c =
     let e = ap (λ (x : Fault). x.error) (row_entry_none s.n s.classes.now s.rows.now c.args.i
     (elim c.then-i-eq0.branch [ then-i-eq0-via-then-i-eq0 w ↦ inl w.if-i-eq0.true | then-i-eq0-via-else-i-eq0+then-self-i w ↦ inr w.if-self-i.true ])) in
     record { error = e; wrong = λ j l. wrong_error (row_list s) c.args.i (marked []) e j l; few = omega arith }
+
+pub slice_bounds-result-end-3 : goal.slice_bounds-result-end-3
+slice_bounds-result-end-3 c =
+    let s = c.args.self.now in
+    row_whole s.n (c.args.i - 1) c.row_bytes-stride.result s.classes.now s.rows.now s.follows (omega arith) c.row_bytes-stride.ensures
 
 pub returns : goal.returns
 returns c =
