@@ -9,6 +9,7 @@ mod telling;
 use crate::fault_record::FaultRecord;
 
 // Its memory keeps the rules; past the last record a blank one stands, which keeps them too.
+// No view by `impl Model`: a refused `fill` leaves the memory as it was, and a view of the faults alone would not say so.
 #[derive(Drop)]
 pub struct ClockList<'a> {
     n: usize,

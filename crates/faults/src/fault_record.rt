@@ -18,6 +18,7 @@ impl Span {
 }
 
 // The clocks are a part of the clock memory, and the name is one of the text that the fault was read from.
+// Spans and no slices: that memory is lent, and is still written while records are made.
 #[derive(Clone, Copy, Debug, Default, PartialEq, Eq)]
 pub struct FaultRecord {
     pub class: u8,

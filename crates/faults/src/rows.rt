@@ -13,7 +13,8 @@ fn row_bytes(n: usize) -> usize
     n.div_ceil(8)
 }
 
-// A fault for each class, and one row after another.
+// A fault for each class, and one row after another. Two slices: how many bytes a row has is known only when the list is filled.
+// No view by `impl Model`: a refused `fill` leaves the memory as it was, and a view of the faults alone would not say so.
 #[derive(Drop)]
 pub struct RowList<'a> {
     n: usize,
