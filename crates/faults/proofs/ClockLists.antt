@@ -3,13 +3,15 @@ use Rattle.std.proofs.Common.{◌≡◌, ℕ, zero, suc, ◌+◌, ◌-◌, ◌<�
 use native.Mathlib.Decide.{dec_lt}
 use lib.Bits.{bit_xor}
 use Rattle.std.proofs.lemmas.Bool.{eq-eqb, ne_eqb, cases_order}
+use Rattle.std.specs.List.Sorted.{IsStrictlyIncreasing}
+use Rattle.std.proofs.lemmas.Map.Keys.{below_from_sorted, sorted_from_strictly_increasing}
 use Rattle.std.proofs.lemmas.List.Elements.{All-from_get_or}
 use Rattle.std.proofs.lemmas.List.Folds.{list_any_at, list_any_none}
 use Rattle.std.proofs.lemmas.List.{get_or-map, get_or_past, length-map}
 use Rattle.gf2.specs.Responses.{response}
 use Rattle.gf2.specs.Tables.{combination}
 use Rattle.faults.specs.Meaning.{Fault, Faults, good, entry, wrong}
-use Rattle.faults.specs.Clocks.{among, blank, part, recorded, by_clocks, Below, Rising, Kept}
+use Rattle.faults.specs.Clocks.{among, blank, part, recorded, by_clocks, Below, Kept}
 use Rattle.faults.specs.Picking.{picked}
 use Rattle.faults.specs.declared.fault_record.FaultRecord.{FaultRecord}
 use Rattle.faults.proofs.Errors.{wrong_error, wrong_past, response_quiet, picked_wrong, picked_quiet, picked_all}
@@ -33,16 +35,8 @@ among_wrong m i cs h e j = by (dec_lt j m.clocks)
 -- ---- the clocks one by one
 
 -- rising clocks rise at any distance
-rising_far : (cs : List ℕ) → Rising cs → (i d : ℕ) → i + suc d < length cs → get_or cs i 0 < get_or cs (i + suc d) 0
-rising_far cs h i zero l = let e : i + 1 ≡ i + suc 0 = omega arith in subst (λ x. get_or cs i 0 < get_or cs x 0) e (h i (omega arith))
-rising_far cs h i (suc d) l =
-    let a = rising_far cs h i d (omega arith) in
-    let e : i + suc d + 1 ≡ i + suc (suc d) = omega arith in
-    let b = subst (λ x. get_or cs (i + suc d) 0 < get_or cs x 0) e (h (i + suc d) (omega arith)) in
-    omega arith
-
-rising_order : (cs : List ℕ) → Rising cs → (i k : ℕ) → i < k → k < length cs → get_or cs i 0 < get_or cs k 0
-rising_order cs h i k l m = let e : i + suc (k - i - 1) ≡ k = omega arith in subst (λ x. get_or cs i 0 < get_or cs x 0) e (rising_far cs h i (k - i - 1) (omega arith))
+rising_order : (cs : List ℕ) → IsStrictlyIncreasing cs → (i k : ℕ) → i < k → k < length cs → get_or cs i 0 < get_or cs k 0
+rising_order cs h i k l m = below_from_sorted cs i k 0 (sorted_from_strictly_increasing cs h) l m
 
 -- sum is what the first i clocks pick: those below some b, and no later one is below b
 pub record Picked (n i sum : ℕ) (table cs : List ℕ) : Type 0 where
@@ -51,7 +45,7 @@ pub record Picked (n i sum : ℕ) (table cs : List ℕ) : Type 0 where
   pub before : (k : ℕ) → k < i → k < length cs → get_or cs k 0 < bound
   pub after : (k : ℕ) → i ≤ k → k < length cs → bound ≤ get_or cs k 0
 
-module _ (n : ℕ) (table cs : List ℕ) (b : Below n cs) (r : Rising cs) (long : n ≤ length table) where
+module _ (n : ℕ) (table cs : List ℕ) (b : Below n cs) (r : IsStrictlyIncreasing cs) (long : n ≤ length table) where
   pub picked_more : (i sum : ℕ) → i < length cs → Picked n i sum table cs → Picked n (i + 1) (bit_xor sum (get_or table (n - 1 - get_or cs i 0) 0)) table cs
   picked_more i sum h p =
       let c = get_or cs i 0 in

@@ -1,6 +1,7 @@
 -- A list that holds the wrong clocks of each fault as rising numbers. Assumes nothing.
 use Rattle.std.specs.Prelude.{ℕ, ◌+◌, ◌<◌, ◌≤◌, Bool, List, map, length, take, drop, ◌==◌, slice_index, slice_index_or}
 use Rattle.std.specs.List.{list_any}
+use Rattle.std.specs.List.Sorted.{IsStrictlyIncreasing}
 use Rattle.gf2.specs.Responses.{response}
 use Rattle.faults.specs.Meaning.{Fault, Faults}
 use Rattle.faults.specs.declared.fault_record.Span.{Span}
@@ -21,16 +22,12 @@ among cs j = list_any (λ c. c == j) cs
 abbrev pub Below : ℕ → List ℕ → Type 0
 Below n cs = (k : ℕ) → k < length cs → slice_index cs k < n
 
--- each above the one before it
-abbrev pub Rising : List ℕ → Type 0
-Rising cs = (k : ℕ) → k + 1 < length cs → slice_index cs k < slice_index cs (k + 1)
-
 -- the rules for one fault
 pub record Kept (n : ℕ) (clocks : List ℕ) (r : FaultRecord) : Type 0 where
   pub class : r.class ≤ 99
   pub within : r.clocks.start + r.clocks.len ≤ length clocks
   pub below : Below n (part clocks r.clocks)
-  pub rising : Rising (part clocks r.clocks)
+  pub rising : IsStrictlyIncreasing (part clocks r.clocks)
 
 -- for the fault at place i, from 0
 abbrev pub KeptAt : ℕ → List FaultRecord → List ℕ → ℕ → Type 0

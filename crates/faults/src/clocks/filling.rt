@@ -1,7 +1,8 @@
 // Making a clock list, and filling it from memory.
 ghost use Rattle.std.specs.Prelude.{◌≡◌, ◌↔◌, length, IsTrue};
+ghost use Rattle.std.specs.List.Sorted.{IsStrictlyIncreasing};
 ghost use Rattle.faults.specs.Meaning.{empty};
-ghost use Rattle.faults.specs.Clocks.{Kept, KeptAt, Below, Rising, by_clocks};
+ghost use Rattle.faults.specs.Clocks.{Kept, KeptAt, Below, by_clocks};
 ghost use Rattle.faults.specs.ClockLists.{clock_list};
 ghost use Rattle.faults.specs.Filling.{Fills, Makes};
 
@@ -58,7 +59,7 @@ fn keeps(n: usize, fault: FaultRecord, clocks: &[u16]) -> bool
 
 // Whether the clocks rise.
 fn rises(clocks: &[u16]) -> bool
-    ensures { IsTrue result ↔ Rising clocks.now }
+    ensures { IsTrue result ↔ IsStrictlyIncreasing clocks.now }
 {
     clocks.windows(2).all(|pair| pair[0] < pair[1])
 }

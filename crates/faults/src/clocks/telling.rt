@@ -1,9 +1,10 @@
 // What a clock list tells.
-ghost use Rattle.std.specs.Prelude.{◌≡◌, ℕ, ◌≤◌, ◌∷◌, length, slice_index_or};
+ghost use Rattle.std.specs.Prelude.{◌≡◌, ℕ, ◌∷◌, length, slice_index_or};
 ghost use Rattle.gf2.specs.Responses.{response};
 ghost use Rattle.gf2.specs.Tables.{combination};
-ghost use Rattle.faults.specs.Meaning.{Lawful, entry, wrong};
-ghost use Rattle.faults.specs.Clocks.{Below, Rising, Kept, among, blank, part};
+ghost use Rattle.std.specs.List.Sorted.{IsStrictlyIncreasing};
+ghost use Rattle.faults.specs.Meaning.{entry, wrong};
+ghost use Rattle.faults.specs.Clocks.{Below, Kept, among, blank, part};
 ghost use Rattle.faults.specs.ClockLists.{clock_list};
 ghost use Rattle.faults.specs.Lawful.{clock_list_lawful};
 
@@ -62,7 +63,7 @@ impl<'a> ClockList<'a> {
         ensures error { (entry (clock_list self.now) i).error ≡ response self.now.n (among result.now) }
         ensures wrong { (j : ℕ) → among result.now j ≡ wrong (clock_list self.now) i j }
         ensures below { Below self.now.n result.now }
-        ensures rising { Rising result.now }
+        ensures rising { IsStrictlyIncreasing result.now }
     {
         self.record_of(i).clocks.part(self.clocks).unwrap()
     }
@@ -78,7 +79,7 @@ fn is_among(clocks: &[u16], clock: usize) -> bool
 // What the response that is 1 at these clocks picks from its words.
 fn pick(clocks: &[u16], words: &[u32]) -> u32
     requires below { Below (length words.now) clocks.now }
-    requires rising { Rising clocks.now }
+    requires rising { IsStrictlyIncreasing clocks.now }
     ensures { result ≡ combination words.now (response (length words.now) (among clocks.now)) }
 {
     let mut sum = 0;

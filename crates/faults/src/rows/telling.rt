@@ -1,10 +1,9 @@
 // What a row list tells.
-ghost use Rattle.std.specs.Prelude.{◌≡◌, ℕ, ◌+◌, ◌-◌, ◌<◌, ◌≤◌, Bool, length, ◌==◌, bit_xor, ◌*◌, ◌++◌, take, min};
+ghost use Rattle.std.specs.Prelude.{◌≡◌, ℕ, ◌+◌, ◌-◌, ◌<◌, ◌≤◌, length, ◌==◌, ◌*◌, ◌++◌, take, min};
 ghost use Rattle.gf2.specs.Polynomials.{coefficient};
 ghost use Rattle.gf2.specs.Responses.{response};
 ghost use Rattle.gf2.specs.Tables.{combination};
-ghost use Rattle.faults.specs.Meaning.{Lawful, entry, wrong};
-ghost use Rattle.faults.specs.Picking.{picked};
+ghost use Rattle.faults.specs.Meaning.{entry, wrong};
 ghost use Rattle.faults.specs.Rows.{stride, marked};
 ghost use Rattle.faults.specs.RowLists.{row_list};
 ghost use Rattle.faults.specs.Lawful.{row_list_lawful};
