@@ -125,28 +125,6 @@ module _ (front eight : List ℕ) (byte : ℕ) (bytes : List ℕ) (long : length
       (response_same (length front) (λ k. marked (byte ∷ bytes) (length eight + k)) (marked bytes)
       (λ k l. let e : length eight + k ≡ 8 + k = omega arith in ap (marked (byte ∷ bytes)) e ∙ marked_later byte bytes k))
 
--- what is left to pick, before a byte and after it
-module _ (words eight front : List ℕ) (row : List ℕ) (byte : ℕ) (bytes : List ℕ) (size sum whole : ℕ) where
-  pub left_after : (picks : ℕ) → picks ≡ combination eight (response (length eight) (marks byte))
-      → row ≡ byte ∷ bytes → words ≡ front ++ eight → length eight ≡ min size (length words) → size ≡ 8
-      → bit_xor sum (combination words (response (length words) (marked row))) ≡ whole
-      → bit_xor (bit_xor sum picks) (combination front (response (length front) (marked bytes))) ≡ whole
-  left_after picks is r w long e left =
-      let n : length eight ≡ min 8 (length (front ++ eight)) = long ∙ ap₂ (λ x y. min x (length y)) e w in
-      let rest = combination front (response (length front) (marked bytes)) in
-      xor_assoc sum picks rest
-      ∙ ap (bit_xor sum) (ap (λ x. bit_xor x rest) is ∙ sym (picked_byte front eight byte bytes n) ∙ sym (ap₂ (λ x y. combination x (response (length x) (marked y))) w r))
-      ∙ left
-
-  -- a byte of 0 picks nothing
-  pub left_same : byte ≡ 0 → row ≡ byte ∷ bytes → words ≡ front ++ eight → length eight ≡ min size (length words) → size ≡ 8
-      → bit_xor sum (combination words (response (length words) (marked row))) ≡ whole
-      → bit_xor sum (combination front (response (length front) (marked bytes))) ≡ whole
-  left_same none r w long e left =
-      let quiet : response (length eight) (marks byte) ≡ 0 = response_quiet (length eight) (marks byte) (λ k l. ap (λ b. marks b k) none ∙ zero_coefficient (7 - k)) in
-      let picks : combination eight (response (length eight) (marks byte)) ≡ 0 = ap (combination eight) quiet ∙ combination_zero eight in
-      ap (λ x. bit_xor x (combination front (response (length front) (marked bytes)))) (sym (xor_zero_r sum)) ∙ left_after 0 (sym picks) r w long e left
-
 -- what the bytes from a place on have still to pick, with what was picked, is the whole
 abbrev pub Left : List ℕ → List ℕ → ℕ → ℕ → Type 0
 Left words row place sum =
@@ -157,16 +135,28 @@ module _ (words row : List ℕ) (place sum : ℕ) (within : place < length row) 
   byte_first : drop place row ≡ get_or row place 0 ∷ drop (place + 1) row
   byte_first = drop-cons row place 0 within ∙ ap (λ k. get_or row place 0 ∷ drop k row) (sym (add-one place))
 
-  left_long : (eight : List ℕ) → length eight ≡ min 8 (length words - 8 * place) → length eight ≡ min 8 (length (take (length words - 8 * place) words))
-  left_long eight e = e ∙ ap (min 8) (sym (length-take-le (length words - 8 * place) words (omega arith)))
-
   pub left_more : (eight : List ℕ) (picks : ℕ) → take (length words - 8 * (place + 1)) words ++ eight ≡ take (length words - 8 * place) words
       → length eight ≡ min 8 (length words - 8 * place) → picks ≡ combination eight (response (length eight) (marks (get_or row place 0)))
       → Left words row place sum → Left words row (place + 1) (bit_xor sum picks)
-  left_more eight picks cut long is left = left_after _ _ _ _ _ _ 8 sum _ picks is byte_first (sym cut) (left_long eight long) refl left
+  left_more eight picks cut long is left =
+      let front = take (length words - 8 * (place + 1)) words in
+      let after = drop (place + 1) row in
+      let rest = combination front (response (length front) (marked after)) in
+      let n : length eight ≡ min 8 (length (front ++ eight)) = long ∙ ap (min 8) (sym (length-take-le (length words - 8 * place) words (omega arith)) ∙ ap length (sym cut)) in
+      xor_assoc sum picks rest
+      ∙ ap (bit_xor sum)
+      (ap (λ x. bit_xor x rest) is ∙ sym (picked_byte front eight (get_or row place 0) after n)
+      ∙ ap₂ (λ x y. combination x (response (length x) (marked y))) cut (sym byte_first))
+      ∙ left
 
+  -- a byte of 0 picks nothing
   pub left_zero : get_or row place 0 ≡ 0 → Left words row place sum → Left words row (place + 1) sum
-  left_zero none left = left_same _ _ _ _ _ _ 8 sum _ none byte_first (sym (words_cut words place)) (left_long (words_at words place) (length-words_at words place)) refl left
+  left_zero none left =
+      let eight = words_at words place in
+      let byte = get_or row place 0 in
+      let quiet : response (length eight) (marks byte) ≡ 0 = response_quiet (length eight) (marks byte) (λ k l. ap (λ b. marks b k) none ∙ zero_coefficient (7 - k)) in
+      let picks : combination eight (response (length eight) (marks byte)) ≡ 0 = ap (combination eight) quiet ∙ combination_zero eight in
+      subst (Left words row (place + 1)) (xor_zero_r sum) (left_more eight 0 (words_cut words place) (length-words_at words place) (sym picks) left)
 
 pub left_end : (words row : List ℕ) (place sum : ℕ) → length row ≤ place → Left words row place sum → sum ≡ combination words (response (length words) (marked row))
 left_end words row place sum h left =
