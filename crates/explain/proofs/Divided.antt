@@ -59,7 +59,7 @@ last_bit f bits i o r (so_far, left) within = subst (λ b. Quotient f.code (poly
 pub rest_below : (f : Feedback) (bits : List Bool) (i : ℕ) (o : Option ℕ) (r : ℕ) → IsDivided f bits i o r → r < 2 ^ 24
 unfolding IsDivided
 rest_below f bits i o r (so_far, left) =
-    let wide : 2 ^ degree f.code ≤ 2 ^ 24 = pow_mono f.most in
+    let wide : 2 ^ degree f.code ≤ 2 ^ 24 = pow_mono f.lawful.most in
     omega (arith, (residue_laws f.code (some f)).below (polynomial (take i bits)))
 
 -- the steps of a division
