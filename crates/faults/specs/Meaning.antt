@@ -1,5 +1,5 @@
 -- What a fault list means: its length n, and the class and the error of each fault. Assumes nothing.
-use Rattle.std.specs.Prelude.{ℕ, ◌-◌, ◌^◌, ◌<◌, ◌≤◌, Bool, false, cond, List, [], ◌∷◌, length, ◌==◌, nat_lt, slice_index_or}
+use Rattle.std.specs.Prelude.{ℕ, ◌-◌, ◌^◌, ◌<◌, ◌≤◌, Bool, false, if◌then◌else◌, List, [], ◌∷◌, length, ◌==◌, nat_lt, slice_index_or}
 use Rattle.gf2.specs.Polynomials.{coefficient}
 use Rattle.gf2.specs.Tables.{combination}
 
@@ -31,11 +31,11 @@ entry m i = slice_index_or (entries m) i good
 
 -- whether entry i is wrong at clock j: whether its error has x^(n-1-j). From clock n on it is not.
 abbrev pub wrong : Faults → ℕ → ℕ → Bool
-wrong m i j = cond (nat_lt j m.clocks) (coefficient (entry m i).error (m.clocks - 1 - j) == 1) false
+wrong m i j = if nat_lt j m.clocks then coefficient (entry m i).error (m.clocks - 1 - j) == 1 else false
 
 -- what the error of entry i picks from a table, and 0 where the table has fewer than n numbers
 abbrev pub combined : Faults → ℕ → List ℕ → ℕ
-combined m i table = cond (nat_lt (length table) m.clocks) 0 (combination table (entry m i).error)
+combined m i table = if nat_lt (length table) m.clocks then 0 else combination table (entry m i).error
 
 -- the rules that every list keeps
 pub record Lawful (m : Faults) : Type 0 where
