@@ -9,6 +9,7 @@ pub(crate) fn first_pair<F: Fn(usize, usize) -> bool>(end: usize, passes: F) -> 
     requires { (a b : ℕ) → a < b → b < end → F.pre passes a b }
     ensures { MatchOption result ((a b : ℕ) → a < b → b < end → F.post passes a b false) (FirstToPass (F.post passes) end) }
 {
+    // Two loops, since the numbers index nothing: they are what is answered.
     for first in 0..end {
         for second in first + 1..end {
             if passes(first, second) {

@@ -10,6 +10,7 @@ use faults::FaultList;
 use refusal::Refusal;
 
 // The feedback of smallest code, among those of degree low to high that keep the list apart. Each entry's word then holds the residue of its error.
+// Low and high come as numbers that may be out of order, and the words as lent memory that may be too short: these are refused and not ruled out.
 // 13 for the degrees, 14 for too few words, 15 for equal errors, and 16, with the entries' words 0, where no feedback of the degrees will do.
 pub fn choose<L: FaultList>(
     list: &L,

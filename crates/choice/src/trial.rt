@@ -20,6 +20,7 @@ pub(crate) fn keeps_apart<L: FaultList>(list: &L, feedback: Feedback, powers: &m
 fn has_no_clash<L: FaultList>(list: &L, table: &[u32]) -> bool
     ensures { IsTrue result ↔ ((a b : ℕ) → Clashing (L.means list.now) table.now a b → ⊥) }
 {
+    // By number: a word is compared with those before it, which an iterator over the words would have lent already.
     let mut words = [0; MAX_ENTRIES];
     for i in 0..list.count() + 1 {
         let word = list.combine(i, table);

@@ -25,7 +25,7 @@ const NUMBERS: [(u64, bool); 14] = [
 fn feedbacks_have_their_numbers(rt: HostRuntime) {
     for (code, is_feedback) in NUMBERS {
         match Feedback::new(code) {
-            Ok(feedback) => assert!(rt; is_feedback && feedback.code() as u64 == code),
+            Ok(feedback) => assert!(rt; is_feedback && u64::from(feedback.code()) == code),
             Err(refusal) => assert!(rt; !is_feedback && refusal == Refusal::NotAFeedback),
         }
     }
@@ -65,8 +65,8 @@ fn a_clock_takes_any_number(rt: HostRuntime) -> Result<(), Fail> {
     assert_eq!(rt; feedback.clock(4, true), 9);
     assert_eq!(rt; feedback.clock(9, false), 1);
     assert_eq!(rt;
-        feedback.clock(u32::MAX, true) as u64,
-        feedback.divide(2 * u32::MAX as u64 + 1).1
+        u64::from(feedback.clock(u32::MAX, true)),
+        feedback.divide(2 * u64::from(u32::MAX) + 1).1
     );
     Ok(())
 }

@@ -19,7 +19,7 @@ pub(crate) fn show_list<L: FaultList>(
         degrees.start(),
         degrees.end()
     )?;
-    for i in 1..list.count() + 1 {
+    for i in 1..=list.count() {
         print!(rt; "  entry {i}, class {}, wrong at", list.class(i))?;
         show_clocks(rt, list, i)?;
     }

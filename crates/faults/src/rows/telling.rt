@@ -56,6 +56,7 @@ impl<'a> RowList<'a> {
         ensures wrong { (j : ℕ) → j < self.now.n → marked result.now j ≡ wrong (row_list self.now) i j }
         ensures few { length result.now ≤ stride self.now.n }
     {
+        // By its place: the memory may go on after the last row.
         if i == 0 || self.classes.len() < i {
             return &[];
         }
