@@ -1,6 +1,5 @@
 // A word for each entry.
-ghost use Rattle.std.specs.Prelude.{ℕ, ◌≤◌, length};
-ghost use Rattle.gf2.specs.Tables.{Powers};
+ghost use Rattle.std.specs.Prelude.{◌≤◌, length};
 ghost use Rattle.apart.specs.Residues.{Residues, Words};
 
 use faults::{FaultList, MAX_CLOCKS, MAX_ENTRIES};
@@ -10,18 +9,25 @@ use gf2::Feedback;
 pub fn residues<L: FaultList>(list: &L, feedback: Feedback) -> [u32; MAX_ENTRIES]
     ensures { Residues feedback.code (L.means list.now) result }
 {
-    let mut powers = [0; MAX_CLOCKS];
-    feedback.powers(&mut powers);
-    words(list, &powers)
+    let mut table = [0; MAX_CLOCKS];
+    residues_by(list, feedback, &mut table[..list.clocks()])
 }
 
-// What the error of each entry picks from a table. From the powers of x that is its residue.
+// The same, with memory for the powers of x that the list reaches.
+fn residues_by<L: FaultList>(list: &L, feedback: Feedback, powers: &mut [u32]) -> [u32; MAX_ENTRIES]
+    requires { (L.means list.now).clocks ≤ length powers.old }
+    ensures { Residues feedback.code (L.means list.now) result }
+{
+    feedback.powers(powers);
+    words(list, powers)
+}
+
+// What the error of each entry picks from a table.
 pub(crate) fn words<L: FaultList>(list: &L, table: &[u32]) -> [u32; MAX_ENTRIES]
-    ensures picks { Words (L.means list.now) table.now result }
-    ensures residues { (f : ℕ) → Powers f table.now → 4096 ≤ length table.now → Residues f (L.means list.now) result }
+    ensures { Words (L.means list.now) table.now result }
 {
     let mut words = [0; MAX_ENTRIES];
-    for (i, word) in words.iter_mut().enumerate() {
+    for (i, word) in words[..list.count() + 1].iter_mut().enumerate() {
         *word = list.combine(i, table);
     }
     words

@@ -30,7 +30,7 @@ pub record Tried (low f g : ℕ) : Type 0 where
   pub reaches : low ≤ degree g
   pub upto : g ≤ f
 
--- ---- the working words
+-- ---- the words
 
 abbrev pub Room : Faults → List ℕ → Type 0
 Room m words = length (entries m) ≤ length words

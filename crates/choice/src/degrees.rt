@@ -11,12 +11,11 @@ use refusal::Refusal;
 pub(crate) struct DegreeRange {
     low: u32,
     high: u32,
-    ghost some: { 1 ≤ low },
-    ghost order: { low ≤ high },
-    ghost most: { high ≤ 24 },
+    ghost in_order: { Degrees low high },
 }
 
 impl DegreeRange {
+    // The degrees from low to high, refused by 13 where they are not in order.
     pub(crate) fn new(low: u32, high: u32) -> Result<DegreeRange, Refusal>
         ensures { MatchResult result (λ d. (d.low ≡ low) × (d.high ≡ high)) (λ e. (e ≡ DegreesOutOfRange) × (Degrees low high → ⊥)) }
     {

@@ -1,4 +1,4 @@
-// Whether a feedback keeps a list apart.
+// One feedback on trial.
 ghost use Rattle.std.specs.Prelude.{ℕ, ◌≤◌, ◌↔◌, IsTrue, length};
 ghost use Rattle.apart.specs.Apart.{KeepsApart};
 ghost use Rattle.choice.specs.Trials.{Clashing, Meets};
@@ -6,7 +6,7 @@ ghost use Rattle.choice.specs.Trials.{Clashing, Meets};
 use faults::{FaultList, MAX_ENTRIES};
 use gf2::Feedback;
 
-// Up to the first clash, with memory for the powers of x that the list reaches.
+// Whether the feedback keeps the list apart, told at the first clash. The memory is for the powers of x that the list reaches.
 pub(crate) fn keeps_apart<L: FaultList>(list: &L, feedback: Feedback, powers: &mut [u32]) -> bool
     requires { (L.means list.now).clocks ≤ length powers.old }
     ensures { IsTrue result ↔ KeepsApart feedback.code (L.means list.now) }

@@ -9,7 +9,7 @@ pub(crate) fn record(class: u8, start: usize, len: usize) -> FaultRecord {
     FaultRecord {
         class,
         clocks: Span { start, len },
-        name: Span { start: 0, len: 0 },
+        name: Span::default(),
     }
 }
 

@@ -11,6 +11,7 @@ use crate::spelling::Polynomial;
 use gf2::Feedback;
 use std::fmt;
 
+// What is said of a response by a feedback.
 #[derive(Clone, Copy)]
 pub(crate) struct Explanation {
     feedback: Feedback,
@@ -20,6 +21,7 @@ pub(crate) struct Explanation {
 }
 
 impl Explanation {
+    // The quotient is none where it is too long for 64 bits.
     pub(crate) fn of(feedback: Feedback, bits: &[bool]) -> Explanation
         ensures feedback { result.feedback ≡ feedback }
         ensures length { result.length ≡ length bits.now }

@@ -21,7 +21,7 @@ pub struct Feedback {
 impl Feedback {
     pub const MAX_DEGREE: u32 = 24;
 
-    // The feedback of this code, if it is one's. `new` alone makes one, as for std's `NonZero`: `TryFrom<u64>` would say the same again.
+    // The feedback of this code, if it is one's. `TryFrom<u64>` would be a second name for it, and no plainer.
     #[tactic(auto, using(crate::proofs::Feedbacks::making))]
     pub fn new(code: u64) -> Result<Feedback, Refusal>
         ensures { MatchResult result (λ f. (f.code ≡ code) × IsFeedback code) (λ e. (e ≡ NotAFeedback) × (IsFeedback code → ⊥)) }

@@ -11,7 +11,7 @@ pub fn is_irreducible(code: u32) -> bool
     has_no_factor(code, degree_of(code) / 2)
 }
 
-// Whether the degree is at least 1 and no polynomial of degree 1 to `most` divides: not x, and of the divisors that x does not divide none.
+// Whether the degree is at least 1 and no polynomial of degree 1 to `most` divides. x is tried first, and then only divisors that x does not divide.
 #[tactic(auto, using(crate::proofs::Trials::trying))]
 fn has_no_factor(code: u32, most: u32) -> bool
     requires { most < 16 }

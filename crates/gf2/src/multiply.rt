@@ -9,7 +9,7 @@ pub fn product(a: u32, b: u32) -> u64
     ensures is { result ≡ times a b }
     ensures laws { ProductLaws }
 {
-    // By a loop: no contract says what a fold over a range gives.
+    // By a loop: as a fold over the falling range it was tried, and that it may be called was not proved.
     let mut sum = 0;
     for n in (0..u32::BITS).rev() {
         let digit = u64::from((a >> n) & 1);

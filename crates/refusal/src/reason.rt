@@ -27,7 +27,7 @@ pub enum Refusal {
     RunOpen,
     // Not 1 <= low <= high <= 24.
     DegreesOutOfRange,
-    // There are fewer working words than entries.
+    // There are fewer words lent than entries.
     TooFewWords,
     // Two entries of different class have equal errors.
     EqualErrors { first: usize, second: usize },

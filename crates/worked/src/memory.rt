@@ -30,7 +30,7 @@ impl Memory {
                     start: memory.clocks.len(),
                     len: wrong.len(),
                 },
-                name: Span { start: 0, len: 0 },
+                name: Span::default(),
             })?;
             memory.clocks.extend_from_slice(wrong)?;
             memory.classes.push(class)?;
@@ -48,5 +48,5 @@ fn row_byte(wrong: &[u16], first: usize) -> u8 {
         .iter()
         .filter_map(|&clock| usize::from(clock).checked_sub(first))
         .filter(|&place| place < 8)
-        .fold(0, |byte, place| byte | 0x80 >> place)
+        .fold(0, |byte, place| byte | (0x80 >> place))
 }

@@ -61,7 +61,7 @@ fn show_choice<L: FaultList>(
             Ok(())
         }
         Err(refusal) => {
-            if let Refusal::NoneKeepsApart = refusal {
+            if refusal == Refusal::NoneKeepsApart {
                 show_reasons(rt, list, power(low), power(high.saturating_add(1)))?;
             }
             show_refusal(rt, refusal)

@@ -41,6 +41,7 @@ impl<'a> ClockList<'a> {
     fn of(n: usize, records: &'a [FaultRecord], clocks: &'a [u16]) -> Result<Self, Refusal>
         ensures { Makes n (length records.now) (KeptAt n records.now clocks.now) (λ list. clock_list list ≡ by_clocks n records.now clocks.now) result }
     {
+        // By place, since one function looks at both makes, and a row has no record.
         check(n, records.len(), |i| keeps(n, records[i], clocks))?;
         Ok(ClockList { n, records, clocks })
     }

@@ -69,7 +69,7 @@ impl<'a> ClockList<'a> {
     }
 }
 
-// Whether a clock is among them.
+// Whether a clock is among them. They are few, and a binary search would want that they rise.
 fn is_among(clocks: &[u16], clock: usize) -> bool
     ensures { result ≡ among clocks.now clock }
 {

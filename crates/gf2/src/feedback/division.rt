@@ -14,7 +14,7 @@ impl Feedback {
         ensures division { Division p self.now.code result.0 result.1 }
         ensures laws { DivisionLaws self.now.code }
     {
-        // By a loop: no contract says what a fold over a range gives.
+        // By a loop: as a fold over the falling range it was tried, and that it may be called was not proved.
         let mut quotient = 0;
         let mut remainder = 0;
         for n in (0..u64::BITS).rev() {
