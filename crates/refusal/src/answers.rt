@@ -36,7 +36,7 @@ impl Refusal {
         places
     }
 
-    // Its number, its layer and its places.
+    // Its number, its layer and its places. The numbers are given by the list, since they are printed; within the code the enum serves.
     fn row(self) -> (u32, Layer, (usize, usize))
         ensures number { result.0 ≡ (table self).number }
         ensures layer { result.1 ≡ (table self).layer }

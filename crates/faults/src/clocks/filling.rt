@@ -13,7 +13,7 @@ use crate::sizes::MAX_CLASS;
 use refusal::Refusal;
 
 impl<'a> ClockList<'a> {
-    // One clock and no faults.
+    // One clock and no faults. A literal of its own in each make: the fields differ.
     pub fn new() -> Self
         ensures { clock_list result ≡ empty }
     {

@@ -11,7 +11,7 @@ use crate::sizes::MAX_CLASS;
 use refusal::Refusal;
 
 impl<'a> RowList<'a> {
-    // One clock and no faults.
+    // One clock and no faults. A literal of its own in each make: the fields differ.
     pub fn new() -> Self
         ensures { row_list result ≡ empty }
     {
