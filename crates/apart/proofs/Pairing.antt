@@ -1,14 +1,17 @@
 -- Pairs of entries: which pair comes first, and what equal words say.
-use Rattle.std.proofs.Common.{refl, ◌≢◌, ◌⊎◌, inl, inr, Decides, ◌≡◌, ℕ, ◌<◌, ◌≤◌, Bool, true, false, List, length, Some, None, Option, sym, ap, ◌∙◌, subst, arith, MatchOption}
+use Rattle.std.proofs.Common.{cond, ltb, refl, ◌≢◌, ◌⊎◌, inl, inr, Decides, ◌≡◌, ℕ, ◌<◌, ◌≤◌, Bool, true, false, List, length, Some, None, Option, sym, ap, ◌∙◌, subst, arith, MatchOption}
 use lib.Bits.{bit_xor, xor_self}
 use native.Mathlib.Decide.{dec_lt}
 use Rattle.std.proofs.lemmas.Bool.{cases_order}
 use Rattle.gf2.specs.Polynomials.{residue}
 use Rattle.gf2.specs.Laws.{ResidueLaws}
+use Rattle.gf2.specs.Tables.{combination}
+use Rattle.gf2.proofs.Tables.{combination_zero}
+use Rattle.std.proofs.lemmas.List.{get_or_past}
 use Rattle.gf2.proofs.Times.{times_zero}
 use Rattle.gf2.proofs.Responses.{response_same}
 use Rattle.gf2.proofs.Decided.{denied}
-use Rattle.faults.specs.Meaning.{Faults, Lawful, entries, entry, wrong, combined}
+use Rattle.faults.specs.Meaning.{Faults, Lawful, good, entries, entry, wrong, combined}
 use Rattle.faults.proofs.Errors.{error_of}
 use Rattle.apart.specs.Apart.{Differ, Confuses, EqualErrors, Distinct, First}
 use Rattle.apart.specs.Pairs.{Earlier, FirstToPass}
@@ -65,6 +68,14 @@ first_of Answers P end bounds swapped decides (Some x) f = record {
 
 -- ---- what the words say
 
+-- past the last entry there is nothing to pick
+pub none_past : (m : Faults) (table : List ℕ) (i : ℕ) → length (entries m) ≤ i → combined m i table ≡ 0
+none_past m table i past = by (ltb (length table) m.clocks)
+  where
+    by : (b : Bool) → cond b 0 (combination table (entry m i).error) ≡ 0
+    by true = refl
+    by false = ap (λ x. combination table x.error) (get_or_past (entries m) i good past) ∙ combination_zero table
+
 differ_swapped : {m : Faults} {a b : ℕ} → Differ m a b → Differ m b a
 differ_swapped d = record { first = d.second; second = d.first; classes = λ e. d.classes (sym e) }
 
@@ -88,11 +99,11 @@ module _ (f : ℕ) (laws : ResidueLaws f) (m : Faults) (a b : ℕ) where
 module _ (f : ℕ) (laws : ResidueLaws f) (m : Faults) (ws : List ℕ) (r : Residues f m ws) where
   alike_confused : (a b : ℕ) → a < length (entries m) → b < length (entries m) → Alike m ws a b → Confuses f m a b
   alike_confused a b h k p =
-      confused_by f laws m a b (record { first = h; second = k; classes = p.classes }) (sym (r a h) ∙ p.same ∙ r b k)
+      confused_by f laws m a b (record { first = h; second = k; classes = p.classes }) (sym (r a) ∙ p.same ∙ r b)
 
   confused_alike : (a b : ℕ) → Confuses f m a b → Alike m ws a b
   confused_alike a b p = record {
-    same = r a p.differ.first ∙ confused_same f laws m a b p ∙ sym (r b p.differ.second);
+    same = r a ∙ confused_same f laws m a b p ∙ sym (r b);
     classes = p.differ.classes;
   }
 
@@ -124,7 +135,7 @@ finds_equal m table ws r end is Answers decides o found =
     decided : (a b : ℕ) (t : Bool) → a < b → b < length (entries m) → Answers a b t → Decides t (EqualErrors m a b)
     decided a b t h k x = let d = decides a b t x in (
       (λ e. let p = d.0 e in record { differ = record { first = omega arith; second = k; classes = p.0.classes }; equal = p.1 }),
-      (λ p. d.1 (record { same = r a p.differ.first ∙ picks a b p.equal ∙ sym (r b p.differ.second); classes = p.differ.classes }, p.equal)),
+      (λ p. d.1 (record { same = r a ∙ picks a b p.equal ∙ sym (r b); classes = p.differ.classes }, p.equal)),
     )
 
     answer : (o : Option Pair) → MatchOption o (Distinct m) (λ p. First (EqualErrors m) p.first p.second) → FindsEqual m o

@@ -1,15 +1,15 @@
--- A word for each entry. Assumes nothing.
-use Rattle.std.specs.Prelude.{◌≡◌, ℕ, ◌<◌, List, length, slice_index}
+-- A word for each entry, and 0 past the last one, where the good board stands again. Assumes nothing.
+use Rattle.std.specs.Prelude.{◌≡◌, ℕ, List, slice_index}
 use Rattle.gf2.specs.Polynomials.{residue}
-use Rattle.faults.specs.Meaning.{Faults, entries, entry, combined}
+use Rattle.faults.specs.Meaning.{Faults, entry, combined}
 
 -- what its error picks from a table
 abbrev pub Words : Faults → List ℕ → List ℕ → Type 0
-Words m table words = (i : ℕ) → i < length (entries m) → slice_index words i ≡ combined m i table
+Words m table words = (i : ℕ) → slice_index words i ≡ combined m i table
 
 -- the residue of its error by f
 abbrev pub Residues : ℕ → Faults → List ℕ → Type 0
-Residues f m words = (i : ℕ) → i < length (entries m) → slice_index words i ≡ residue f (entry m i).error
+Residues f m words = (i : ℕ) → slice_index words i ≡ residue f (entry m i).error
 
 -- two entries have equal words, and different classes
 pub record Alike (m : Faults) (words : List ℕ) (a b : ℕ) : Type 0 where

@@ -5,7 +5,7 @@ ghost use Rattle.apart.specs.Residues.{Residues, Words};
 use faults::{FaultList, MAX_CLOCKS, MAX_ENTRIES};
 use gf2::Feedback;
 
-// The residue of each entry's error. What stands past the last entry counts for nothing.
+// The residue of each entry's error, and 0 past the last entry, where the good board stands again.
 pub fn residues<L: FaultList>(list: &L, feedback: Feedback) -> [u32; MAX_ENTRIES]
     ensures { Residues feedback.code (L.means list.now) result }
 {
@@ -27,7 +27,7 @@ pub(crate) fn words<L: FaultList>(list: &L, table: &[u32]) -> [u32; MAX_ENTRIES]
     ensures { Words (L.means list.now) table.now result }
 {
     let mut words = [0; MAX_ENTRIES];
-    for (i, word) in words[..list.count() + 1].iter_mut().enumerate() {
+    for (i, word) in words.iter_mut().enumerate() {
         *word = list.combine(i, table);
     }
     words
