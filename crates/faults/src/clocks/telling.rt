@@ -33,7 +33,7 @@ impl<'a> FaultList for ClockList<'a> {
         is_among(self.clocks_of(i), clock)
     }
 
-    // One word for each wrong clock.
+    // One word for each wrong clock. (What a short table gives is said in each make, which cuts by its own n.)
     #[tactic(auto, using(crate::proofs::Errors::combination_take))]
     fn combine(&self, i: usize, table: &[u32]) -> u32 {
         let Some(words) = table.get(..self.n) else {
@@ -69,7 +69,7 @@ impl<'a> ClockList<'a> {
     }
 }
 
-// Whether a clock is among them. They are few, and a binary search would want that they rise.
+// Whether a clock is among them. `any` is plainer than a binary search, which wants the clock as a `u16` first.
 fn is_among(clocks: &[u16], clock: usize) -> bool
     ensures { result ≡ among clocks.now clock }
 {

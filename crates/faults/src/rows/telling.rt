@@ -26,7 +26,7 @@ impl<'a> FaultList for RowList<'a> {
         self.classes.len()
     }
 
-    // 0 for the good board, and past the last entry.
+    // 0 for the good board, and past the last entry: by the same calls as a record, since one function of both would have to speak of every `Default`.
     #[tactic(auto, using(crate::proofs::RowLists::row_class))]
     fn class(&self, i: usize) -> u8 {
         i.checked_sub(1)
@@ -39,7 +39,7 @@ impl<'a> FaultList for RowList<'a> {
         clock < self.n && is_marked(self.row_of(i), clock)
     }
 
-    // Byte by byte.
+    // Byte by byte, with the same test of a short table.
     #[tactic(auto, using(crate::proofs::Errors::combination_take))]
     fn combine(&self, i: usize, table: &[u32]) -> u32 {
         let Some(words) = table.get(..self.n) else {
@@ -86,7 +86,7 @@ fn pick_marked(row: &[u8], words: &[u32]) -> u32
     requires { length row.now ≤ stride (length words.now) }
     ensures { result ≡ combination words.now (response (length words.now) (marked row.now)) }
 {
-    // By place: to cut the words of a byte of 0 too, as rchunks does, takes half as long again.
+    // By place: `rchunks` cuts the words of a byte of 0 too, and took two thirds longer.
     let mut sum = 0;
     for (place, byte) in row.iter().enumerate() {
         if *byte != 0 {
