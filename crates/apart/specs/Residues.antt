@@ -8,8 +8,11 @@ abbrev pub Words : Faults → List ℕ → List ℕ → Type 0
 Words m table words = (i : ℕ) → slice_index words i ≡ combined m i table
 
 -- the residue of its error by f
+abbrev pub residues : ℕ → Faults → ℕ → ℕ
+residues f m i = residue f (entry m i).error
+
 abbrev pub Residues : ℕ → Faults → List ℕ → Type 0
-Residues f m words = (i : ℕ) → slice_index words i ≡ residue f (entry m i).error
+Residues f m words = (i : ℕ) → slice_index words i ≡ residues f m i
 
 -- two entries have equal words, and different classes
 pub record Alike (m : Faults) (words : List ℕ) (a b : ℕ) : Type 0 where

@@ -10,9 +10,10 @@ use Rattle.gf2.proofs.Degrees.{degree_reach, reach_degree, degree_below, below_d
 use Rattle.gf2.proofs.Feedbacks.{feedback_some}
 use Rattle.faults.specs.Meaning.{Faults, entry, combined}
 use Rattle.apart.specs.Apart.{KeepsApart}
+use Rattle.apart.specs.Residues.{residues}
 use Rattle.apart.proofs.Pairing.{confused_by, confused_same}
 use Rattle.choice.specs.Counting.{Counts}
-use Rattle.choice.specs.Choosing.{Fits, NoneFits, Chosen, Tried, Picks, residues}
+use Rattle.choice.specs.Choosing.{Fits, NoneFits, Chosen, Tried, Picks}
 use Rattle.choice.specs.Progress.{Passed, Progress}
 use Rattle.choice.specs.Trials.{Clashing, Meets, Seen}
 use Rattle.choice.proofs.Counting.{counts_none, counts_same, counts_more}

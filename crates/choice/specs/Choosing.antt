@@ -2,10 +2,11 @@
 use Rattle.std.specs.Prelude.{◌≡◌, ℕ, ◌<◌, ◌≤◌, ◌⊎◌, List, length, Result, MatchResult, slice_index}
 use Rattle.refusal.specs.declared.reason.Refusal.{Refusal}
 use Rattle.refusal.specs.declared.reason.Refusal.TheVariants as refused
-use Rattle.gf2.specs.Polynomials.{degree, residue}
+use Rattle.gf2.specs.Polynomials.{degree}
 use Rattle.gf2.specs.Feedbacks.{IsFeedback}
-use Rattle.faults.specs.Meaning.{Faults, entries, entry}
+use Rattle.faults.specs.Meaning.{Faults, entries}
 use Rattle.apart.specs.Apart.{KeepsApart, EqualErrors, Distinct, First}
+use Rattle.apart.specs.Residues.{residues}
 use Rattle.choice.specs.Counting.{Counts}
 use Rattle.choice.specs.declared.answer.Choice.{Choice}
 
@@ -44,10 +45,6 @@ pub record Written (m : Faults) (v : ℕ → ℕ) (before after : List ℕ) : Ty
   pub each : (i : ℕ) → i < length (entries m) → slice_index after i ≡ v i
   pub past : PastKept m before after
 
--- the residue of each entry's error
-abbrev pub residues : ℕ → Faults → ℕ → ℕ
-residues f m i = residue f (entry m i).error
-
 -- ---- what is answered, and what the words then hold
 
 pub record Degrees (low high : ℕ) : Type 0 where
@@ -62,8 +59,7 @@ pub record Picks (m : Faults) (low high : ℕ) (c : Choice) : Type 0 where
 
 -- both, and the residues in the words
 pub record Found (m : Faults) (low high : ℕ) (before after : List ℕ) (c : Choice) : Type 0 where
-  pub chosen : Chosen m low high c.feedback.code
-  pub tried : Counts (Tried low c.feedback.code) c.tried
+  pub picks : Picks m low high c
   pub words : Written m (residues c.feedback.code m) before after
 
 -- an accepted choice: no refusal's condition holds

@@ -1,4 +1,4 @@
--- Every list of either make keeps the rules. Assumes nothing.
+-- Every list of either make keeps the rules: the law of the trait, for each. It is proved here, since a law of a trait may cite nothing of its own crate but specs/. Assumes nothing.
 use Rattle.std.proofs.Common.{ℕ, zero, suc, ◌^◌, ◌<◌, ◌≤◌, length, get_or, sym, subst, arith, pow_pos}
 use native.Mathlib.Decide.{dec_lt}
 use Rattle.std.proofs.lemmas.List.{get_or-map, get_or_past, length-map}

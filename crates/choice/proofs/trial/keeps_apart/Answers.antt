@@ -3,7 +3,7 @@ use Rattle.gf2.proofs.Feedbacks.{some}
 use Rattle.gf2.proofs.Named.{residue_laws}
 use Rattle.faults.specs.Meaning.{combined}
 use Rattle.faults.proofs.Errors.{combined_residue}
-use Rattle.choice.specs.Choosing.{residues}
+use Rattle.apart.specs.Residues.{residues}
 use Rattle.choice.proofs.Steps.{apart_clash, clash_apart}
 use Rattle.choice.proofs.trial.keeps_apart.Goals as goal
 
