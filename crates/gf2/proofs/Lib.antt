@@ -6,6 +6,7 @@ pub mod Remainders
 pub mod Digits
 pub mod Feedbacks
 pub mod Shifts
+pub mod Products
 pub mod Decided
 pub mod Trials
 pub mod Ranges

@@ -6,7 +6,7 @@ use Rattle.gf2.specs.Responses.{polynomial}
 use Rattle.gf2.proofs.Sums.{Degree}
 use Rattle.gf2.proofs.Responses.{no_bits, polynomial_none}
 use Rattle.gf2.proofs.Times.{times_one, times_double, times_comm, times_assoc, times_xor_r}
-use Rattle.gf2.proofs.Digits.{times_none, times_turn, times_fits}
+use Rattle.gf2.proofs.Products.{times_none_yet, times_power_turn, word_fits, times_whole}
 use Rattle.gf2.proofs.Degrees.{degree_at, product_degree}
 use Rattle.gf2.proofs.Remainders.{division_zero, unique, division_more, residue_is, division_of, of_division, residue_division, residue_below, residue_xor, residue_again, residue_divides, residues_equal}
 
@@ -21,7 +21,7 @@ product_laws = record {
 }
 
 -- for the loop of `product`
-pub ruleset products = (product_laws, times_none, times_turn, times_fits)
+pub ruleset products = (product_laws, times_none_yet, times_power_turn, word_fits, times_whole)
 
 module _ (f : ℕ) (h : 0 < f) where
   d : Degree f (degree f)

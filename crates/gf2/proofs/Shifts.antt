@@ -8,7 +8,7 @@ use Rattle.gf2.proofs.Times.{times_one, times_shift}
 use Rattle.gf2.proofs.Degrees.{times_degree, pow_le_of}
 use Rattle.gf2.proofs.Remainders.{residue_xor, residue_divides, residue_small}
 
-times_power : (f s : ℕ) → times (2 ^ s) f ≡ f * 2 ^ s
+pub times_power : (f s : ℕ) → times (2 ^ s) f ≡ f * 2 ^ s
 times_power f s = ap (λ x. times x f) (sym (one-mul (2 ^ s))) ∙ times_shift 1 s f ∙ ap (λ x. x * 2 ^ s) (times_one f)
 
 -- f·x^(j-k) has the degree j
