@@ -4,7 +4,7 @@ ghost use Rattle.refusal.specs.Table.{layer_number};
 
 #[derive(Clone, Copy, Debug, PartialEq, Eq)]
 pub enum Layer {
-    Field = 1,
+    Field,
     Line,
     Sheet,
     List,
@@ -17,6 +17,6 @@ impl Layer {
     pub fn number(self) -> u32
         ensures { result ≡ layer_number self }
     {
-        self as u32
+        self as u32 + 1
     }
 }
