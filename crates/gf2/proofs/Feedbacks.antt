@@ -1,5 +1,5 @@
 -- What every feedback keeps: over its code, and over the type.
-use Rattle.std.proofs.Common.{ℕ, ◌<◌, ◌≤◌, sym, subst, arith}
+use Rattle.std.proofs.Common.{◌≡◌, ℕ, ◌*◌, ◌%◌, ◌^◌, ◌<◌, ◌≤◌, sym, subst, arith, pow_mono}
 use Rattle.gf2.specs.Polynomials.{degree, Irreducible}
 use Rattle.gf2.specs.Feedbacks.{IsFeedback}
 use Rattle.gf2.specs.declared.feedback.Feedback.{Feedback}
@@ -22,6 +22,10 @@ feedback_below f i = omega (arith, degree_below f 24 (feedback_some f i) i.most)
 
 pub feedback_made : (f : ℕ) → Irreducible f → f < 33554432 → IsFeedback f
 feedback_made f i h = is_feedback f i (below_degree f 24 (irreducible_some f i) (omega arith))
+
+-- a bound on the code, shifted in 64 bits, is whole
+pub bound_is : (most : ℕ) → most ≤ 24 → 2 * 2 ^ most % 2 ^ 64 ≡ 2 * 2 ^ most
+bound_is most h = let p : 2 ^ most ≤ 2 ^ 24 = pow_mono h in omega arith
 
 -- for `Feedback::new`
 pub ruleset making = (feedback_made, feedback_below, one_degree, degree_is)

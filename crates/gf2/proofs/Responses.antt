@@ -7,10 +7,10 @@ use Rattle.std.proofs.lemmas.List.Sums.{fold_more}
 use Rattle.std.proofs.lemmas.List.FromFn.{length-map-range_with_len, get_or-map-range_with_len, take-map-range_with_len}
 use Rattle.std.specs.List.{range_with_len}
 use Rattle.gf2.specs.Polynomials.{coefficient, residue}
-use Rattle.gf2.specs.Responses.{bit, polynomial, response}
+use Rattle.gf2.specs.Responses.{bit, polynomial, response, Longer}
 use Rattle.gf2.specs.Laws.{ResponseLaws}
-use Rattle.gf2.proofs.Sums.{by_digit}
-use Rattle.gf2.proofs.Remainders.{residue_zero}
+use Rattle.gf2.proofs.Sums.{Degree, by_digit}
+use Rattle.gf2.proofs.Remainders.{residue_zero, residue_again}
 
 pub bit_below : (c : Bool) → bit c < 2
 bit_below true = omega arith
@@ -32,6 +32,15 @@ no_bits f = residue_zero f
 pub polynomial_more : (bits : List Bool) (i : ℕ) → i < length bits → polynomial (take (i + 1) bits) ≡ 2 * polynomial (take i bits) + bit (get_or bits i false)
 unfolding polynomial
 polynomial_more bits i h = fold_more (λ p c. 2 * p + bit c) 0 bits i false h
+
+-- what is left of x·r + c is the residue of a response with one bit more
+pub longer : (k f : ℕ) → Degree f k → (p s : ℕ) → s ≡ residue f p → (r : ℕ) (c : Bool) → p ≡ 2 * r + bit c → Longer f r c s
+longer k f d p s is r c e bits i l here was =
+    let front = polynomial (take i bits) in
+    is ∙ ap (residue f) (e ∙ ap (λ x. 2 * x + bit c) was)
+    ∙ residue_again k f d front (bit c) (bit_below c)
+    ∙ ap (λ b. residue f (2 * front + bit b)) (sym here)
+    ∙ ap (residue f) (sym (polynomial_more bits i l))
 
 -- ---- the bit of clock j
 

@@ -18,21 +18,28 @@ moved_degree f k j d l =
     let own : Degree (2 ^ (j - k)) (j - k) = omega (arith, pow_pos (j - k)) in
     subst (λ x. Degree x j) (times_power f (j - k)) (subst (Degree (times (2 ^ (j - k)) f)) e (times_degree (j - k) (2 ^ (j - k)) k f own d))
 
-moved_whole : (f k j : ℕ) → Degree f k → k ≤ j → j < 32 → f * 2 ^ (j - k) % 4294967296 ≡ f * 2 ^ (j - k)
+-- and fits a word of 32 bits
+pub moved_whole : (f k j : ℕ) → Degree f k → k ≤ j → j < 32 → f * 2 ^ (j - k) % 4294967296 ≡ f * 2 ^ (j - k)
 moved_whole f k j d l h =
     let b : j ≤ 31 = omega arith in
     let p : 2 ^ j ≤ 2 ^ 31 = pow_mono b in
     let e = moved_degree f k j d l in
     omega arith
 
--- a turn of the division takes off the divisor, moved up to the degree of what is left
-pub taken_less : (f k r j : ℕ) → Degree f k → Degree r j → k ≤ j → j < 32 → bit_xor r (f * 2 ^ (j - k) % 4294967296) < r
-taken_less f k r j d e l h = rw (moved_whole f k j d l h) (omega (arith, degrees_xor r (f * 2 ^ (j - k)) j e (moved_degree f k j d l)))
+-- what is left is less without the divisor, moved up to its degree
+pub taken_less : (f k r j : ℕ) → Degree f k → Degree r j → k ≤ j → bit_xor r (f * 2 ^ (j - k)) < r
+taken_less f k r j d e l = omega (arith, degrees_xor r (f * 2 ^ (j - k)) j e (moved_degree f k j d l))
 
-pub taken_same : (f k r j : ℕ) → Degree f k → k ≤ j → j < 32 → residue f (bit_xor r (f * 2 ^ (j - k) % 4294967296)) ≡ residue f r
-taken_same f k r j d l h =
-    let moved = f * 2 ^ (j - k) in
-    rw (moved_whole f k j d l h)
-    (residue_xor k f d r moved ∙ ap (bit_xor (residue f r)) ((residue_divides k f d moved).1 (2 ^ (j - k), times_power f (j - k))) ∙ xor_zero_r (residue f r))
+-- and has the same residue without the divisor, moved up by any power of x
+pub taken_same : (f k r s : ℕ) → Degree f k → residue f (bit_xor r (f * 2 ^ s)) ≡ residue f r
+taken_same f k r s d =
+    residue_xor k f d r (f * 2 ^ s) ∙ ap (bit_xor (residue f r)) ((residue_divides k f d (f * 2 ^ s)).1 (2 ^ s, times_power f s)) ∙ xor_zero_r (residue f r)
 
-pub ruleset taken = (one_shl, pow_le_of, taken_less, taken_same, residue_small)
+-- both in a word of 32 bits: a turn of the division takes off the divisor, moved up to the degree of what is left
+pub word_less : (f k r j : ℕ) → Degree f k → Degree r j → k ≤ j → j < 32 → bit_xor r (f * 2 ^ (j - k) % 4294967296) < r
+word_less f k r j d e l h = rw (moved_whole f k j d l h) (taken_less f k r j d e l)
+
+pub word_same : (f k r j : ℕ) → Degree f k → k ≤ j → j < 32 → residue f (bit_xor r (f * 2 ^ (j - k) % 4294967296)) ≡ residue f r
+word_same f k r j d l h = rw (moved_whole f k j d l h) (taken_same f k r (j - k) d)
+
+pub ruleset taken = (one_shl, pow_le_of, word_less, word_same, residue_small)

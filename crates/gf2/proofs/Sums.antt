@@ -69,14 +69,17 @@ of_top x n e =
     let rest = mod_below x (2 ^ n) (pow_pos n) in
     omega arith
 
+-- no digit from x^n on
+pub shr_zero : (x n : ℕ) → x / 2 ^ n ≡ 0 → x < 2 ^ n
+shr_zero x n e = let below : x < 1 * 2 ^ n = (div-lt_iff_lt-mul (pow_pos n)).0 (omega arith) in omega arith
+
 pub degree_xor : (x y n : ℕ) → Degree x n → y < 2 ^ n → Degree (bit_xor x y) n
 degree_xor x y n h k = of_top (bit_xor x y) n (xor_shr x y n ∙ ap₂ bit_xor (top_of x n h) (div-eq_of_lt k))
 
 pub degrees_xor : (x y n : ℕ) → Degree x n → Degree y n → bit_xor x y < 2 ^ n
 degrees_xor x y n h k =
     let e : bit_xor x y / 2 ^ n ≡ 0 = xor_shr x y n ∙ ap₂ bit_xor (top_of x n h) (top_of y n k) in
-    let below : bit_xor x y < 1 * 2 ^ n = (div-lt_iff_lt-mul (pow_pos n)).0 (omega arith) in
-    omega arith
+    shr_zero (bit_xor x y) n e
 
 -- what stands at x^n, below 2^(n+1)
 pub carry_below : (n x : ℕ) → x < 2 * 2 ^ n → x / 2 ^ n < 2

@@ -53,10 +53,12 @@ odd_tried m f h one below e t =
     let g = 2 * h + 1 in
     t.1 (g, degree_one g (omega arith), below_degree g m (omega arith) (omega arith), (residue_divides (degree g) g (degree_at g (omega arith)) f).0 e)
 
-odd_none : (f h : ℕ) → (residue (2 * h + 1) f ≡ 0 → ⊥) → Divides (2 * h + 1) f → ⊥
+-- and one that leaves something does not divide
+pub odd_none : (f h : ℕ) → (residue (2 * h + 1) f ≡ 0 → ⊥) → Divides (2 * h + 1) f → ⊥
 odd_none f h n d = n ((residue_divides (degree (2 * h + 1)) (2 * h + 1) (degree_at (2 * h + 1) (omega arith)) f).1 d)
 
-pub all_tried : (m f : ℕ) → 2 ≤ f → (1 ≤ m → 0 < f % 2) → ((h : ℕ) → 1 ≤ h → h < 2 ^ m → residue (2 * h + 1) f ≡ 0 → ⊥) → Tried m f
+-- where none of the divisors tried divides, no polynomial of degree 1 to m does
+pub all_tried : (m f : ℕ) → 2 ≤ f → (1 ≤ m → 0 < f % 2) → ((h : ℕ) → h < 2 ^ m → 1 ≤ h → Divides (2 * h + 1) f → ⊥) → Tried m f
 unfolding Tried
 all_tried m f two odd none = (degree_one f two, λ (g, one, most, d). by g (one_degree g one) one most d (g % 2) refl)
   where
@@ -66,7 +68,11 @@ all_tried m f two odd none = (degree_one f two, λ (g, one, most, d). by g (one_
         omega (arith, even_divisor (g / 2) f (subst (λ x. Divides x f) s d), odd (omega arith))
     by g two one most d (suc zero) e =
         let s : g ≡ 2 * (g / 2) + 1 = omega arith in
-        odd_none f (g / 2) (none (g / 2) (omega arith) (omega (arith, degree_below g m (omega arith) most))) (subst (λ x. Divides x f) s d)
+        none (g / 2) (omega (arith, degree_below g m (omega arith) most)) (omega arith) (subst (λ x. Divides x f) s d)
     by g two one most d (suc (suc c)) e = omega arith
 
-pub ruleset trying = (none_tried, even_tried, odd_tried, all_tried)
+-- the same, where each of them leaves something
+pub all_leave : (m f : ℕ) → 2 ≤ f → (1 ≤ m → 0 < f % 2) → ((h : ℕ) → 1 ≤ h → h < 2 ^ m → residue (2 * h + 1) f ≡ 0 → ⊥) → Tried m f
+all_leave m f two odd none = all_tried m f two odd (λ h below one. odd_none f h (none h one below))
+
+pub ruleset trying = (none_tried, even_tried, odd_tried, all_leave)
