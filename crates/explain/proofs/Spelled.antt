@@ -23,21 +23,21 @@ pub record IsUnderway {W : Type 0} (took : W → List ℕ → W → Type 0) (f g
   pub onward : written ++ onward separator to_come ≡ whole
 
 -- the exponents below n, as the coefficient of x^(n - 1) tells
-next_exponent : (p n : ℕ) → 0 < n → exponents n p ≡ cond (coefficient p (n - 1) == 1) ((n - 1) ∷ exponents (n - 1) p) (exponents (n - 1) p)
+pub next_exponent : (p n : ℕ) → 0 < n → exponents n p ≡ cond (coefficient p (n - 1) == 1) ((n - 1) ∷ exponents (n - 1) p) (exponents (n - 1) p)
 unfolding exponents
 next_exponent p zero some = absurd (omega arith)
 next_exponent p (suc n) some = simp unary_clauses refl
 
-one_there : (p n : ℕ) → 0 < n → bit_and (p / 2 ^ (n - 1)) 1 ≡ 1 → exponents n p ≡ (n - 1) ∷ exponents (n - 1) p
+pub one_there : (p n : ℕ) → 0 < n → bit_and (p / 2 ^ (n - 1)) 1 ≡ 1 → exponents n p ≡ (n - 1) ∷ exponents (n - 1) p
 one_there p n some e =
     next_exponent p n some ∙ ap (λ b. cond b ((n - 1) ∷ exponents (n - 1) p) (exponents (n - 1) p)) (eq-eqb (coefficient p (n - 1)) 1 (sym (digit_is (p / 2 ^ (n - 1))) ∙ e))
 
-none_there : (p n : ℕ) → 0 < n → (bit_and (p / 2 ^ (n - 1)) 1 ≡ 1 → ⊥) → exponents n p ≡ exponents (n - 1) p
+pub none_there : (p n : ℕ) → 0 < n → (bit_and (p / 2 ^ (n - 1)) 1 ≡ 1 → ⊥) → exponents n p ≡ exponents (n - 1) p
 none_there p n some e =
     next_exponent p n some
     ∙ ap (λ b. cond b ((n - 1) ∷ exponents (n - 1) p) (exponents (n - 1) p)) (ne_eqb (coefficient p (n - 1)) 1 (λ here. e (digit_is (p / 2 ^ (n - 1)) ∙ here)))
 
-summed_first : (i : ℕ) (is : List ℕ) → summed (i ∷ is) ≡ power i ++ onward (codes " + ") is
+pub summed_first : (i : ℕ) (is : List ℕ) → summed (i ∷ is) ≡ power i ++ onward (codes " + ") is
 summed_first i [] = sym (append-nil (power i))
 summed_first i (j ∷ js) = refl
 
@@ -46,7 +46,7 @@ pub plus_is_text : shadow (Utf8 (32 ∷ 43 ∷ 32 ∷ []))
 plus_is_text = search rules
 
 -- one power more is written
-onward_first : (separator : List ℕ) (i : ℕ) (is : List ℕ) → (separator ++ power i) ++ onward (codes " + ") is ≡ onward separator (i ∷ is)
+pub onward_first : (separator : List ℕ) (i : ℕ) (is : List ℕ) → (separator ++ power i) ++ onward (codes " + ") is ≡ onward separator (i ∷ is)
 onward_first separator i is = append_assoc separator (power i) (onward (codes " + ") is) ∙ ap (λ t. separator ++ t) (sym (summed_first i is))
 
 module _ {W : Type 0} (took : W → List ℕ → W → Type 0) where
