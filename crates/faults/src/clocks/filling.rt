@@ -51,23 +51,15 @@ impl<'a> ClockList<'a> {
 fn keeps(n: usize, fault: FaultRecord, clocks: &[u16]) -> bool
     ensures { IsTrue result ↔ Kept n clocks.now fault }
 {
-    fault.class <= MAX_CLASS
-        && fault
-            .clocks
-            .part(clocks)
-            .is_some_and(|part| rises(part) && stays_below(n, part))
+    fault.class <= MAX_CLASS && fault.clocks.part(clocks).is_some_and(|part| rises(n, part))
 }
 
-// Whether the clocks rise.
-fn rises(clocks: &[u16]) -> bool
-    ensures { IsTrue result ↔ IsStrictlyIncreasing clocks.now }
+// Whether the clocks rise and stay below n. In one pass, which stops at the first clock that breaks either rule.
+fn rises(n: usize, clocks: &[u16]) -> bool
+    ensures { IsTrue result ↔ (Below n clocks.now × IsStrictlyIncreasing clocks.now) }
 {
-    clocks.windows(2).all(|pair| pair[0] < pair[1])
-}
-
-// Whether they stay below n.
-fn stays_below(n: usize, clocks: &[u16]) -> bool
-    ensures { IsTrue result ↔ Below n clocks.now }
-{
-    clocks.iter().all(|clock| usize::from(*clock) < n)
+    clocks.first().is_none_or(|clock| usize::from(*clock) < n)
+        && clocks
+            .windows(2)
+            .all(|pair| pair[0] < pair[1] && usize::from(pair[1]) < n)
 }
