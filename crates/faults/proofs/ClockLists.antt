@@ -1,5 +1,5 @@
 -- The clocks of a fault, one by one, and the entries of a clock list.
-use Rattle.std.proofs.Common.{◌≡◌, ℕ, zero, suc, ◌+◌, ◌-◌, ◌<◌, ◌≤◌, true, false, eqb, ◌⊎◌, List, [], ◌∷◌, map, length, get_or, sym, refl, ap, ◌∙◌, subst, inl, inr, arith}
+use Rattle.std.proofs.Common.{◌≡◌, ℕ, zero, suc, ◌+◌, ◌-◌, ◌^◌, ◌<◌, ◌≤◌, true, false, eqb, ◌⊎◌, List, [], ◌∷◌, map, length, get_or, sym, refl, ap, ◌∙◌, subst, inl, inr, arith, pow_pos}
 use native.Mathlib.Decide.{dec_lt}
 use lib.Bits.{bit_xor}
 use Rattle.std.proofs.lemmas.Bool.{eq-eqb, ne_eqb, cases_order}
@@ -10,8 +10,10 @@ use Rattle.std.proofs.lemmas.List.Folds.{list_any_at, list_any_none}
 use Rattle.std.proofs.lemmas.List.{get_or-map, get_or_past, length-map}
 use Rattle.gf2.specs.Responses.{response}
 use Rattle.gf2.specs.Tables.{combination}
-use Rattle.faults.specs.Meaning.{Fault, Faults, good, entry, wrong}
+use Rattle.gf2.proofs.Responses.{response_below}
+use Rattle.faults.specs.Meaning.{Fault, Faults, Lawful, good, entry, wrong}
 use Rattle.faults.specs.Clocks.{among, blank, part, recorded, by_clocks, Below, Kept}
+use Rattle.faults.specs.Lawful.{entry_each}
 use Rattle.faults.specs.Picking.{picked}
 use Rattle.faults.specs.declared.fault_record.FaultRecord.{FaultRecord}
 use Rattle.faults.proofs.Errors.{wrong_error, wrong_past, response_quiet, picked_wrong, picked_quiet, picked_all}
@@ -37,6 +39,15 @@ among_wrong m i cs h e j = by (dec_lt j m.clocks)
 -- rising clocks rise at any distance
 rising_order : (cs : List ℕ) → IsStrictlyIncreasing cs → (i k : ℕ) → i < k → k < length cs → get_or cs i 0 < get_or cs k 0
 rising_order cs h i k l m = below_from_sorted cs i k 0 (sorted_from_strictly_increasing cs h) l m
+
+-- a clock that is not above the one before it
+pub too_low : (cs : List ℕ) (i least clock : ℕ) → (i ≡ 0 → least ≡ 0) → ((k : ℕ) → k + 1 ≡ i → least ≡ get_or cs k 0 + 1) → clock ≡ get_or cs i 0 → clock < least → i < length cs → IsStrictlyIncreasing cs → ⊥
+too_low cs zero least clock z s e l h r = omega (arith, z refl)
+too_low cs (suc i) least clock z s e l h r =
+    let n : i + 1 ≡ suc i = omega arith in
+    let a = s i n in
+    let b = subst (λ x. get_or cs i 0 < get_or cs x 0) n (r i (omega arith)) in
+    omega arith
 
 -- sum is what the first i clocks pick: those below some b, and no later one is below b
 pub record Picked (n i sum : ℕ) (table cs : List ℕ) : Type 0 where
@@ -88,6 +99,17 @@ blank_good n cs = ap (λ x. record { class = 0; error = x }) (response_of_none n
 pub blank_kept : (n : ℕ) (cs : List ℕ) → Kept n cs blank
 blank_kept n cs = record { class = omega arith; within = omega arith; below = λ k l. absurd (omega arith); rising = λ k l. absurd (omega arith) }
 
+-- the record of the good board, and of every number past the last entry
+pub record_none : (rs : List FaultRecord) (i : ℕ) → (i ≡ 0) ⊎ (length rs < i) → get_or (blank ∷ rs) i blank ≡ blank
+record_none rs zero h = refl
+record_none rs (suc i) (inl e) = absurd (omega arith)
+record_none rs (suc i) (inr l) = get_or_past rs i blank (omega arith)
+
+-- the record of a fault
+pub record_at : (rs : List FaultRecord) (i : ℕ) → 0 < i → get_or (blank ∷ rs) i blank ≡ get_or rs (i - 1) blank
+record_at rs zero h = absurd (omega arith)
+record_at rs (suc i) h = let e : i ≡ suc i - 1 = omega arith in ap (λ x. get_or rs x blank) e
+
 module _ (n : ℕ) (rs : List FaultRecord) (cs : List ℕ) where
   -- an entry is what its record says, and the blank record says that of the good board
   pub clock_entry : (i : ℕ) → entry (by_clocks n rs cs) i ≡ recorded n cs (get_or (blank ∷ rs) i blank)
@@ -100,6 +122,19 @@ module _ (n : ℕ) (rs : List FaultRecord) (cs : List ℕ) where
 
   pub record_error : (i : ℕ) → (entry (by_clocks n rs cs) i).error ≡ response n (among (part cs (get_or (blank ∷ rs) i blank).clocks))
   record_error i = ap (λ (x : Fault). x.error) (clock_entry i)
+
+  -- what the memory means keeps the rules of every list, also before a list holds it
+  pub clocks_lawful : 1 ≤ n → n ≤ 4096 → length rs ≤ 200 → ((i : ℕ) → (get_or rs i blank).class ≤ 99) → Lawful (by_clocks n rs cs)
+  clocks_lawful some most few classes = record {
+    some = some;
+    most = most;
+    few = rw length-map few;
+    class = each (λ x. x.class ≤ 99) (omega arith) classes;
+    error = each (λ x. x.error < 2 ^ n) (pow_pos n) (λ k. response_below n (among (part cs (get_or rs k blank).clocks)));
+  }
+    where
+      each : (P : Fault → Type 0) → P good → ((k : ℕ) → P (recorded n cs (get_or rs k blank))) → (i : ℕ) → P (entry (by_clocks n rs cs) i)
+      each P none kept = entry_each (by_clocks n rs cs) P none (λ k l. subst P (sym (get_or-map (recorded n cs) rs k blank good (rw length-map at l))) (kept k))
 
   -- the rules hold past the last record too
   pub kept_all : ((k : ℕ) → k < length rs → Kept n cs (get_or rs k blank)) → (i : ℕ) → Kept n cs (get_or rs i blank)

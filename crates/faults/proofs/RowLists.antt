@@ -1,18 +1,20 @@
 -- The entries of a row list.
-use Rattle.std.proofs.Common.{◌≡◌, ℕ, zero, suc, ◌+◌, ◌-◌, ◌*◌, ◌/◌, ◌%◌, ◌<◌, ◌≤◌, min, Bool, false, eqb, ◌++◌, length-append, add-one, add-mul, one-mul, ◌⊎◌, List, [], ◌∷◌, map, length, get_or, take, drop, length-drop, sym, refl, ap, ◌∙◌, subst, ap₂, inl, inr, arith, pow_pos}
+use Rattle.std.proofs.Common.{◌≡◌, ℕ, zero, suc, ◌+◌, ◌-◌, ◌*◌, ◌/◌, ◌%◌, ◌^◌, ◌<◌, ◌≤◌, min, Bool, false, eqb, ◌++◌, length-append, add-one, add-mul, one-mul, zero-mul, le_refl, ◌⊎◌, List, [], ◌∷◌, map, length, get_or, take, drop, length-drop, sym, refl, ap, ◌∙◌, subst, ap₂, inl, inr, arith, pow_pos}
 use native.Mathlib.Nat.{div-eq_of_lt}
 use native.Mathlib.Decide.{dec_lt}
 use Rattle.std.specs.List.{range_with_len}
 use Rattle.std.proofs.lemmas.List.FromFn.{length-map-range_with_len, get_or-map-range_with_len}
 use Rattle.std.proofs.lemmas.List.{get_or_past, take_all, length-take, length-take-le}
+use Rattle.std.proofs.lemmas.Nat.{mul-le}
 use Rattle.std.proofs.Math.Seq.{take-add, drop-cons}
 use Rattle.gf2.specs.Polynomials.{coefficient}
 use Rattle.gf2.specs.Responses.{response}
-use Rattle.faults.specs.Meaning.{Fault, good, entry}
+use Rattle.faults.specs.Meaning.{Fault, Lawful, good, entry}
+use Rattle.faults.specs.Lawful.{entry_each}
 use Rattle.faults.specs.Filling.{Follows}
-use Rattle.faults.specs.Rows.{RowKept, stride, marked, rowed, by_rows}
+use Rattle.faults.specs.Rows.{RowKept, stride, row, marked, rowed, by_rows}
 use Rattle.gf2.specs.Tables.{combination}
-use Rattle.gf2.proofs.Responses.{response_same}
+use Rattle.gf2.proofs.Responses.{response_same, response_below}
 use Rattle.gf2.proofs.Tables.{combination_zero}
 use Rattle.faults.proofs.Errors.{response_quiet}
 use Rattle.faults.proofs.Parts.{combination_parts}
@@ -67,6 +69,42 @@ module _ (n : ℕ) (cs rs : List ℕ) where
           ap (λ (x : Fault). x.class) (get_or_past (map (rowed n cs rs) (range_with_len 0 (length cs))) i good (rw length-map-range_with_len (omega arith)))
           ∙ sym (get_or_past cs i 0 (omega arith))
 
+  -- what the memory means keeps the rules of every list, also before a list holds it
+  pub rows_lawful : 1 ≤ n → n ≤ 4096 → length cs ≤ 200 → ((i : ℕ) → get_or cs i 0 ≤ 99) → Lawful (by_rows n cs rs)
+  rows_lawful some most few classed = record {
+    some = some;
+    most = most;
+    few = rw length-map-range_with_len few;
+    class = each (λ x. x.class ≤ 99) (omega arith) classed;
+    error = each (λ x. x.error < 2 ^ n) (pow_pos n) (λ k. response_below n (marked (row n rs k)));
+  }
+    where
+      each : (P : Fault → Type 0) → P good → ((k : ℕ) → P (rowed n cs rs k)) → (i : ℕ) → P (entry (by_rows n cs rs) i)
+      each P none kept = entry_each (by_rows n cs rs) P none (λ k l. subst P (sym (get_or-map-range_with_len (rowed n cs rs) 0 (length cs) k k good (rw length-map-range_with_len at l) (omega arith))) (kept k))
+
+-- ---- the memory of the rows
+
+-- where each row has its bytes, the memory has those of all
+pub rows_room : (n count long : ℕ) → ((i : ℕ) → i < count → (i + 1) * stride n ≤ long) → count * stride n ≤ long
+rows_room n zero long h = rw zero-mul (omega arith)
+rows_room n (suc count) long h = let e : count + 1 ≡ suc count = omega arith in subst (λ x. x * stride n ≤ long) e (h count (omega arith))
+
+-- a row lies within
+pub row_within : (n i count long : ℕ) → 0 < i → i ≤ count → count * stride n ≤ long → (i - 1) * stride n + stride n ≤ long
+row_within n i count long h l room =
+    let e : i - 1 + 1 ≡ i = omega arith in
+    let a = mul-le i (stride n) count (stride n) l (le_refl (stride n)) in
+    let b : (i - 1) * stride n + stride n ≡ i * stride n = ap (λ x. (i - 1) * stride n + x) (sym (one-mul (stride n))) ∙ sym (add-mul (i - 1) 1 (stride n)) ∙ ap (λ x. x * stride n) e in
+    omega arith
+
+-- past the last class a place reads 0
+pub classes_all : (cs : List ℕ) → ((k : ℕ) → k < length cs → get_or cs k 0 ≤ 99) → (i : ℕ) → get_or cs i 0 ≤ 99
+classes_all cs h i = by (dec_lt i (length cs))
+  where
+    by : Dec (i < length cs) → get_or cs i 0 ≤ 99
+    by (yes l) = h i l
+    by (no l) = rw (get_or_past cs i 0 (omega arith)) (omega arith)
+
 -- a row that lies within has all its bytes
 pub row_whole : (n i k : ℕ) (cs rs : List ℕ) → Follows n (length cs) (RowKept n cs rs) → i < length cs → k ≡ stride n
     → k ≡ length (take k (take (length rs - i * k) (drop (i * k) rs)))
@@ -77,6 +115,17 @@ row_whole n i k cs rs h l is =
     omega (arith, length-take k (take (length rs - i * k) rest), length-take (length rs - i * k) rest, length-drop (i * k) rs)
 
 -- ---- one byte of a row
+
+-- the marks of the byte at place b
+pub marked_byte : (bytes : List ℕ) (b k : ℕ) → k < 8 → marked bytes (8 * b + k) ≡ eqb (coefficient (get_or bytes b 0) (7 - k)) 1
+marked_byte bytes b k h =
+    let q : (8 * b + k) / 8 ≡ b = omega arith in
+    let r : (8 * b + k) % 8 ≡ k = omega arith in
+    ap₂ (λ x y. eqb (coefficient (get_or bytes x 0) (7 - y)) 1) q r
+
+-- a zero byte marks no clock
+pub zero_byte : (bytes : List ℕ) (b : ℕ) → get_or bytes b 0 ≡ 0 → (k : ℕ) → k < 8 → marked bytes (8 * b + k) ≡ false
+zero_byte bytes b e k h = marked_byte bytes b k h ∙ ap (λ x. eqb (coefficient x (7 - k)) 1) e ∙ zero_coefficient (7 - k)
 
 -- where a byte has a 1, from its highest bit
 abbrev pub marks : ℕ → ℕ → Bool
