@@ -1,5 +1,5 @@
 -- Pairs of entries: which pair comes first, and what equal words say.
-use Rattle.std.proofs.Common.{cond, ltb, refl, ◌≢◌, ◌⊎◌, inl, inr, Decides, ◌≡◌, ℕ, ◌<◌, ◌≤◌, Bool, true, false, List, length, Some, None, Option, sym, ap, ◌∙◌, subst, arith, MatchOption}
+use Rattle.std.proofs.Common.{◌+◌, slice_index, replicate, set, get_or, get_or-set_other, get_or-set_same, below_more, cond, ltb, refl, ◌≢◌, ◌⊎◌, inl, inr, Decides, ◌≡◌, ℕ, ◌<◌, ◌≤◌, Bool, true, false, List, length, Some, None, Option, sym, ap, ◌∙◌, subst, arith, MatchOption}
 use lib.Bits.{bit_xor, xor_self}
 use native.Mathlib.Decide.{dec_lt}
 use Rattle.std.proofs.lemmas.Bool.{cases_order}
@@ -7,7 +7,7 @@ use Rattle.gf2.specs.Polynomials.{residue}
 use Rattle.gf2.specs.Laws.{ResidueLaws}
 use Rattle.gf2.specs.Tables.{combination}
 use Rattle.gf2.proofs.Tables.{combination_zero}
-use Rattle.std.proofs.lemmas.List.{get_or_past}
+use Rattle.std.proofs.lemmas.List.{get_or_past, get_or-replicate, length-replicate}
 use Rattle.gf2.proofs.Times.{times_zero}
 use Rattle.gf2.proofs.Responses.{response_same}
 use Rattle.gf2.proofs.Decided.{denied}
@@ -15,7 +15,7 @@ use Rattle.faults.specs.Meaning.{Faults, Lawful, good, entries, entry, wrong, co
 use Rattle.faults.proofs.Errors.{error_of}
 use Rattle.apart.specs.Apart.{Differ, Confuses, EqualErrors, Distinct, First}
 use Rattle.apart.specs.Pairs.{Earlier, FirstToPass}
-use Rattle.apart.specs.Residues.{Words, Residues, Alike, SameError}
+use Rattle.apart.specs.Residues.{Words, WordsUpTo, Residues, Alike, SameError}
 use Rattle.apart.specs.Verdicts.{FindsEqual, FindsConfused}
 use Rattle.apart.specs.declared.answers.Pair.{Pair}
 
@@ -75,6 +75,27 @@ none_past m table i past = by (ltb (length table) m.clocks)
     by : (b : Bool) → cond b 0 (combination table (entry m i).error) ≡ 0
     by true = refl
     by false = ap (λ x. combination table x.error) (get_or_past (entries m) i good past) ∙ combination_zero table
+
+-- the words entry by entry: at first all are 0, then one more is as it should be, and past the last entry 0 is right
+pub words_none : (m : Faults) (table : List ℕ) (n : ℕ) → WordsUpTo m table (replicate n 0) 0
+words_none m table n = record { first = λ k h. omega (arith, h); rest = λ k h. zeros k (dec_lt k n) }
+  where
+    zeros : (k : ℕ) → Dec (k < n) → slice_index (replicate n 0) k ≡ 0
+    zeros k (yes l) = get_or-replicate n k 0 0 l
+    zeros k (no l) = get_or_past (replicate n 0) k 0 (rw length-replicate (omega arith))
+
+pub words_more : (m : Faults) (table ws : List ℕ) (i word : ℕ) → i < length ws → word ≡ combined m i table → WordsUpTo m table ws i → WordsUpTo m table (set ws i word) (i + 1)
+words_more m table ws i word long is w = record {
+  first = below_more _ _ (λ k h. let ne : k ≢ i = omega arith in rw get_or-set_other (w.first k h)) (rw get_or-set_same is);
+  rest = λ k h. let ne : k ≢ i = omega arith in rw get_or-set_other (w.rest k (omega arith));
+}
+
+pub words_all : (m : Faults) (table ws : List ℕ) (i : ℕ) → length (entries m) ≤ i → WordsUpTo m table ws i → Words m table ws
+words_all m table ws i all w k = by (dec_lt k i)
+  where
+    by : Dec (k < i) → get_or ws k 0 ≡ combined m k table
+    by (yes l) = w.first k l
+    by (no l) = w.rest k (omega arith) ∙ sym (none_past m table k (omega arith))
 
 differ_swapped : {m : Faults} {a b : ℕ} → Differ m a b → Differ m b a
 differ_swapped d = record { first = d.second; second = d.first; classes = λ e. d.classes (sym e) }

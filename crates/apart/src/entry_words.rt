@@ -1,5 +1,6 @@
 // A word for each entry.
 ghost use Rattle.std.specs.Prelude.{◌≤◌, length};
+ghost use Rattle.faults.specs.Meaning.{Lawful};
 ghost use Rattle.apart.specs.Residues.{Residues, Words};
 
 use faults::{FaultList, MAX_CLOCKS, MAX_ENTRIES};
@@ -15,20 +16,22 @@ pub fn residues<L: FaultList>(list: &L, feedback: Feedback) -> [u32; MAX_ENTRIES
 
 // The same, with memory for the powers of x that the list reaches.
 fn residues_by<L: FaultList>(list: &L, feedback: Feedback, powers: &mut [u32]) -> [u32; MAX_ENTRIES]
-    requires { (L.means list.now).clocks ≤ length powers.old }
+    requires lawful { Lawful (L.means list.now) }
+    requires long { (L.means list.now).clocks ≤ length powers.old }
     ensures { Residues feedback.code (L.means list.now) result }
 {
     feedback.powers(powers);
     words(list, powers)
 }
 
-// What the error of each entry picks from a table.
+// What the error of each entry picks from a table. Past the last entry there is nothing to pick, and nothing is asked.
+#[tactic(auto, using(crate::proofs::Pairing::words_more, crate::proofs::Pairing::words_all))]
 pub(crate) fn words<L: FaultList>(list: &L, table: &[u32]) -> [u32; MAX_ENTRIES]
     ensures { Words (L.means list.now) table.now result }
 {
     let mut words = [0; MAX_ENTRIES];
-    for (i, word) in words.iter_mut().enumerate() {
-        *word = list.combine(i, table);
+    for i in 0..list.count() + 1 {
+        words[i] = list.combine(i, table);
     }
     words
 }

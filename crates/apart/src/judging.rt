@@ -39,21 +39,22 @@ fn first_confused<L: FaultList>(list: &L, feedback: Feedback) -> Option<Pair>
 const SIEVE: u64 = 16_777_243;
 
 // The powers of x by that feedback.
-fn sieve() -> [u32; MAX_CLOCKS]
-    ensures { IsFeedback 16777243 → Powers 16777243 result }
+fn sieve(table: &mut [u32])
+    ensures { IsFeedback 16777243 → Powers 16777243 table.new }
 {
-    let mut table = [0; MAX_CLOCKS];
     if let Ok(feedback) = Feedback::new(SIEVE) {
-        feedback.powers(&mut table);
+        feedback.powers(table);
     }
-    table
 }
 
 // The first two entries of different class with equal errors, the pair that refusal 15 names. Any table would do: it only saves comparing most pairs clock by clock.
 pub fn equal_errors<L: FaultList>(list: &L) -> Option<Pair>
     ensures { FindsEqual (L.means list.now) result }
 {
-    first_equal(list, &sieve())
+    let mut table = [0; MAX_CLOCKS];
+    let powers = &mut table[..list.clocks()];
+    sieve(powers);
+    first_equal(list, powers)
 }
 
 // The same, with a table: equal errors pick the same from it.

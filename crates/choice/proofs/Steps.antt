@@ -1,5 +1,5 @@
 -- The steps towards the choice.
-use Rattle.std.proofs.Common.{◌≢◌, false, Decides, set, get_or-set_other, get_or-set_same, length, take, ap, length-take-le, get_or-take, ◌≡◌, ℕ, ◌+◌, ◌*◌, ◌^◌, ◌<◌, ◌≤◌, ◌⊎◌, List, sym, ◌∙◌, subst, inl, inr, arith, below_more}
+use Rattle.std.proofs.Common.{true, refl, Option, Some, None, MatchOption, replicate, false, Decides, set, length, take, ap, length-take-le, get_or-take, ◌≡◌, ℕ, ◌+◌, ◌*◌, ◌^◌, ◌<◌, ◌≤◌, ◌⊎◌, List, sym, ◌∙◌, subst, inl, inr, arith, below_more}
 use Rattle.std.proofs.lemmas.Bool.{cases_order}
 use Rattle.gf2.specs.Polynomials.{degree}
 use Rattle.gf2.specs.Laws.{ResidueLaws}
@@ -8,14 +8,14 @@ use Rattle.gf2.specs.declared.feedback.Feedback.{Feedback}
 use Rattle.gf2.proofs.Decided.{denied}
 use Rattle.gf2.proofs.Degrees.{degree_reach, reach_degree, degree_below, below_degree}
 use Rattle.gf2.proofs.Feedbacks.{feedback_some}
-use Rattle.faults.specs.Meaning.{Faults, entry, combined}
+use Rattle.faults.specs.Meaning.{Faults, entries, entry, combined}
 use Rattle.apart.specs.Apart.{KeepsApart}
-use Rattle.apart.specs.Residues.{residues}
-use Rattle.apart.proofs.Pairing.{confused_by, confused_same}
+use Rattle.apart.specs.Residues.{Words, Residues, residues}
+use Rattle.apart.proofs.Pairing.{words_none, words_more, words_all, confused_by, confused_same}
 use Rattle.choice.specs.Counting.{Counts}
-use Rattle.choice.specs.Choosing.{Fits, NoneFits, Chosen, Tried, Picks}
+use Rattle.choice.specs.Choosing.{Fits, NoneFits, Chosen, Tried, Picks, Written}
 use Rattle.choice.specs.Progress.{Passed, Progress}
-use Rattle.choice.specs.Trials.{Clashing, Meets, Seen}
+use Rattle.choice.specs.Trials.{Clashing, Meets, Trial}
 use Rattle.choice.proofs.Counting.{counts_none, counts_same, counts_more}
 
 -- ---- the entries under one feedback
@@ -28,11 +28,23 @@ module _ (f : ℕ) (laws : ResidueLaws f) (m : Faults) (table : List ℕ) (word 
   pub clash_apart : ((a b : ℕ) → Clashing m table a b → ⊥) → KeepsApart f m
   clash_apart k a b p = k a b (record { differ = p.differ; same = word a ∙ confused_same f laws m a b p ∙ sym (word b) })
 
+  -- so the words are the residues
+  pub told_apart : (o : Option (List ℕ)) → MatchOption o (((a b : ℕ) → Clashing m table a b → ⊥) → ⊥) (λ ws. ((a b : ℕ) → Clashing m table a b → ⊥) × Words m table ws)
+      → MatchOption o (KeepsApart f m → ⊥) (λ ws. KeepsApart f m × Residues f m ws)
+  told_apart None clash = λ k. clash (apart_clash k)
+  told_apart (Some ws) told = (clash_apart told.0, λ i. told.1 i ∙ word i)
+
+-- no entry is seen yet
+pub seen_none : (m : Faults) (table : List ℕ) (n : ℕ) → Trial m table (replicate n 0) 0
+unfolding Trial
+seen_none m table n = record { picks = words_none m table n; apart = λ a b h. omega (arith, h) }
+
 -- one entry more, whose word no entry before has that is of another class
 pub seen_more : (m : Faults) (table ws : List ℕ) (i word class : ℕ) → i < length ws → word ≡ combined m i table → class ≡ (entry m i).class
-    → Decides false ((k : ℕ) × Meets m (take i ws) word class k) → Seen m table ws i → Seen m table (set ws i word) (i + 1)
+    → Decides false ((k : ℕ) × Meets m (take i ws) word class k) → Trial m table ws i → Trial m table (set ws i word) (i + 1)
+unfolding Trial
 seen_more m table ws i word class long is cl none seen = record {
-  picks = below_more _ _ (λ k h. let ne : k ≢ i = omega arith in rw get_or-set_other (seen.picks k h)) (rw get_or-set_same is);
+  picks = words_more m table ws i word long is seen.picks;
   apart = λ a b h k p. by a b p (cases_order a i) (cases_order b i) h k;
 }
   where
@@ -41,7 +53,7 @@ seen_more m table ws i word class long is cl none seen = record {
       j,
       record {
         among = let le : i ≤ length ws = omega arith in rw length-take-le l;
-        same = get_or-take i ws j 0 l ∙ seen.picks j l ∙ e ∙ sym is;
+        same = get_or-take i ws j 0 l ∙ seen.picks.first j l ∙ e ∙ sym is;
         classes = λ x. n (x ∙ cl);
       },
     )
@@ -53,6 +65,33 @@ seen_more m table ws i word class long is cl none seen = record {
     by a b p (inr (inl l)) (inr (inl r)) h k = seen.apart a b l r p
     by a b p (inr (inr l)) t h k = omega arith
     by a b p s (inr (inr r)) h k = omega arith
+
+-- an entry before has its word and is of another class
+pub seen_clash : (m : Faults) (table ws : List ℕ) (i word class : ℕ) → i < length ws → i < length (entries m) → word ≡ combined m i table → class ≡ (entry m i).class
+    → Decides true ((k : ℕ) × Meets m (take i ws) word class k) → Trial m table ws i → ((a b : ℕ) → Clashing m table a b → ⊥) → ⊥
+unfolding Trial
+seen_clash m table ws i word class long within is cl some seen none = by (some.0 refl)
+  where
+    by : (k : ℕ) × Meets m (take i ws) word class k → ⊥
+    by (k, p) =
+        let le : i ≤ length ws = omega arith in
+        let before : k < i = rw length-take-le at p.among in
+        none k i (record {
+          differ = record { first = omega arith; second = within; classes = λ x. p.classes (x ∙ sym cl) };
+          same = sym (seen.picks.first k before) ∙ sym (get_or-take i ws k 0 before) ∙ p.same ∙ is;
+        })
+
+-- all entries are seen
+pub seen_all : (m : Faults) (table ws : List ℕ) (i : ℕ) → length (entries m) ≤ i → Trial m table ws i → ((a b : ℕ) → Clashing m table a b → ⊥) × Words m table ws
+unfolding Trial
+seen_all m table ws i all seen = (λ a b p. seen.apart a b (omega (arith, p.differ.first)) (omega (arith, p.differ.second)) p, words_all m table ws i all seen.picks)
+
+-- what the loop over the entries goes by
+pub ruleset trial = (seen_more, seen_clash, seen_all)
+
+-- words that are as they should be, said otherwise
+pub written_same : (m : Faults) (v w : ℕ → ℕ) (before after : List ℕ) → ((i : ℕ) → v i ≡ w i) → Written m v before after → Written m w before after
+written_same m v w before after e p = record { each = λ i h. p.each i h ∙ e i; past = p.past }
 
 -- ---- the feedbacks one by one
 

@@ -5,7 +5,7 @@ ghost use Rattle.choice.specs.Exactness.{Exact};
 use crate::answer::Choice;
 use crate::degrees::DegreeRange;
 use crate::finding::first_apart;
-use apart::{Pair, equal_errors, residues};
+use apart::{Pair, equal_errors};
 use faults::FaultList;
 use refusal::Refusal;
 
@@ -41,14 +41,14 @@ fn choose_among<L: FaultList>(
     if let Some(Pair { first, second }) = equal_errors(list) {
         return Err(Refusal::EqualErrors { first, second });
     }
-    let words = &mut words[..list.count() + 1];
+    let entries = list.count() + 1;
     match first_apart(list, degrees) {
-        Some(choice) => {
-            words.copy_from_slice(&residues(list, choice.feedback)[..words.len()]);
-            Ok(choice)
+        Some(found) => {
+            words[..entries].copy_from_slice(&found.1[..entries]);
+            Ok(found.0)
         }
         None => {
-            words.fill(0);
+            words[..entries].fill(0);
             Err(Refusal::NoneKeepsApart)
         }
     }

@@ -1,19 +1,23 @@
 // The first feedback that keeps a list apart.
 ghost use Rattle.std.specs.Prelude.{MatchOption};
+ghost use Rattle.apart.specs.Residues.{Residues};
 ghost use Rattle.choice.specs.Choosing.{NoneFits, Picks};
 ghost use Rattle.choice.specs.Exactness.{NoneServes, ExactChoice};
 
 use crate::answer::Choice;
 use crate::degrees::DegreeRange;
-use crate::trial::keeps_apart;
-use faults::{FaultList, MAX_CLOCKS};
+use crate::trial::residues_apart;
+use faults::{FaultList, MAX_CLOCKS, MAX_ENTRIES};
 use gf2::Feedback;
 
-// The feedback of smallest code, among those of these degrees that keep the list apart.
+// The feedback of smallest code, among those of these degrees that keep the list apart, and the residue of each entry's error by it.
 #[tactic(auto, using(crate::proofs::Exactness::progress))]
-pub(crate) fn first_apart<L: FaultList>(list: &L, degrees: DegreeRange) -> Option<Choice>
-    ensures found { MatchOption result (NoneFits (L.means list.now) degrees.low degrees.high) (Picks (L.means list.now) degrees.low degrees.high) }
-    ensures exact { MatchOption result (NoneServes (L.means list.now) degrees.low degrees.high) (ExactChoice (L.means list.now) degrees.low degrees.high) }
+pub(crate) fn first_apart<L: FaultList>(
+    list: &L,
+    degrees: DegreeRange,
+) -> Option<(Choice, [u32; MAX_ENTRIES])>
+    ensures found { MatchOption result (NoneFits (L.means list.now) degrees.low degrees.high) (λ r. Picks (L.means list.now) degrees.low degrees.high r.0 × Residues r.0.feedback.code (L.means list.now) r.1) }
+    ensures exact { MatchOption result (NoneServes (L.means list.now) degrees.low degrees.high) (λ r. ExactChoice (L.means list.now) degrees.low degrees.high r.0) }
 {
     let mut table = [0; MAX_CLOCKS];
     let powers = &mut table[..list.clocks()];
@@ -23,8 +27,8 @@ pub(crate) fn first_apart<L: FaultList>(list: &L, degrees: DegreeRange) -> Optio
             continue;
         };
         tried += 1;
-        if keeps_apart(list, feedback, powers) {
-            return Some(Choice { feedback, tried });
+        if let Some(residues) = residues_apart(list, feedback, powers) {
+            return Some((Choice { feedback, tried }, residues));
         }
     }
     None

@@ -1,4 +1,8 @@
-// Fault lists in both makes: what they tell, and what filling refuses.
+// Fault lists in both makes, what they tell and what filling refuses; and a make of a caller's own.
+ghost use Rattle.std.specs.Prelude.{◌+◌, []};
+
+use apart::{equal_errors, verdict};
+use choice::choose;
 use faults::{ClockList, FaultList, FaultRecord, RowList, Span};
 use refusal::Refusal;
 use std::process::Abort;
@@ -141,4 +145,42 @@ fn holds_one_fault<L: FaultList>(rt: &impl Abort, list: &L) {
     assert_eq!(rt; list.clocks(), 3);
     assert_eq!(rt; list.class(1), 7);
     assert!(rt; list.wrong(1, 2));
+}
+
+// A list without faults whose length is told by a byte. That it is below 4,096 is known from the byte alone, and no invariant has to say so.
+#[derive(Clone, Copy)]
+struct Faultless {
+    last: u8,
+}
+
+impl FaultList for Faultless {
+    ghost means = { λ s. record { clocks = s.last + 1; faults = [] } };
+
+    fn clocks(&self) -> usize {
+        usize::from(self.last) + 1
+    }
+
+    fn count(&self) -> usize {
+        0
+    }
+
+    fn class(&self, _i: usize) -> u8 {
+        0
+    }
+
+    fn wrong(&self, _i: usize, _clock: usize) -> bool {
+        false
+    }
+}
+
+// It takes the trait's own way to combine. Any feedback keeps it apart, and so the first is chosen.
+#[test]
+fn a_make_may_know_its_bounds_from_its_types(rt: HostRuntime) -> Result<(), Fail> {
+    let list = Faultless { last: 255 };
+    assert_eq!(rt; list.clocks(), 256);
+    assert_eq!(rt; list.combine(0, &[7; 256]), 0);
+    assert_eq!(rt; verdict(&list, 19), Ok(None));
+    assert_eq!(rt; equal_errors(&list), None);
+    assert_eq!(rt; choose(&list, 3, 5, &mut [9; 2])?.feedback.code(), 11);
+    Ok(())
 }

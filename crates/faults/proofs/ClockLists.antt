@@ -13,10 +13,9 @@ use Rattle.gf2.specs.Tables.{combination}
 use Rattle.gf2.proofs.Responses.{response_below}
 use Rattle.faults.specs.Meaning.{Fault, Faults, Lawful, good, entry, wrong}
 use Rattle.faults.specs.Clocks.{among, blank, part, recorded, by_clocks, Below, Kept}
-use Rattle.faults.specs.Lawful.{entry_each}
 use Rattle.faults.specs.Picking.{picked}
 use Rattle.faults.specs.declared.fault_record.FaultRecord.{FaultRecord}
-use Rattle.faults.proofs.Errors.{wrong_error, wrong_past, response_quiet, picked_wrong, picked_quiet, picked_all}
+use Rattle.faults.proofs.Errors.{entry_each, wrong_error, wrong_past, response_quiet, picked_wrong, picked_quiet, picked_all}
 
 -- ---- membership
 

@@ -1,6 +1,6 @@
 -- An error, clock by clock.
-use Rattle.std.proofs.Common.{◌≡◌, ℕ, zero, suc, ◌+◌, ◌-◌, ◌*◌, ◌/◌, ◌%◌, ◌^◌, ◌<◌, ◌≤◌, min, Bool, true, false, cond, eqb, ltb, List, [], ◌∷◌, length, get_or, take, sym, refl, ap, ◌∙◌, ap₂, add-zero, mul_assoc, mul_comm, add-mul, one-mul, zero-mul, mul-one, arith, pow_pos, pow_mono, le-ltb, lt-ltb}
-use Rattle.std.proofs.lemmas.List.{length-take-le}
+use Rattle.std.proofs.Common.{◌≡◌, ℕ, zero, suc, ◌+◌, ◌-◌, ◌*◌, ◌/◌, ◌%◌, ◌^◌, ◌<◌, ◌≤◌, min, Bool, true, false, cond, eqb, ltb, List, [], ◌∷◌, length, get_or, take, sym, refl, ap, ◌∙◌, subst, ap₂, add-zero, mul_assoc, mul_comm, add-mul, one-mul, zero-mul, mul-one, arith, pow_pos, pow_mono, le-ltb, lt-ltb}
+use Rattle.std.proofs.lemmas.List.{length-take-le, get_or_past}
 use native.Mathlib.Nat.{min-eq_left, min-eq_right}
 use native.Mathlib.Decide.{dec_lt}
 use lib.Bits.{bit_xor, xor_shifted}
@@ -9,7 +9,7 @@ use Rattle.gf2.specs.Responses.{bit, response}
 use Rattle.gf2.specs.Tables.{combination, Powers}
 use Rattle.gf2.proofs.Responses.{response_none, response_below, response_more, response_same, response_coefficient, response_of}
 use Rattle.gf2.proofs.Tables.{combination_zero, combination_xor, combination_power}
-use Rattle.faults.specs.Meaning.{Faults, Lawful, entry, wrong, combined}
+use Rattle.faults.specs.Meaning.{Fault, Faults, Lawful, good, entry, wrong, combined}
 use Rattle.faults.specs.Picking.{front, picked}
 
 bit_one : (b : Bool) → eqb (bit b) 1 ≡ b
@@ -22,6 +22,15 @@ error_of m i s =
     let there : ℕ → Bool = λ j. eqb (coefficient (entry m i).error (m.clocks - 1 - j)) 1 in
     response_same m.clocks (wrong m i) there (λ j l. ap (λ b. cond b (there j) false) (lt-ltb j m.clocks l))
     ∙ response_of m.clocks (entry m i).error (s.error i)
+
+-- what holds of the good board and of every fault holds of every entry
+pub entry_each : (m : Faults) (P : Fault → Type 0) → P good → ((k : ℕ) → k < length m.faults → P (get_or m.faults k good)) → (i : ℕ) → P (entry m i)
+entry_each m P none each zero = none
+entry_each m P none each (suc i) = by (dec_lt i (length m.faults))
+  where
+    by : Dec (i < length m.faults) → P (get_or m.faults i good)
+    by (yes l) = each i l
+    by (no l) = subst P (sym (get_or_past m.faults i good (omega arith))) none
 
 -- the response that has w j at clock j says at each clock what w says
 pub wrong_response : (n : ℕ) (w : ℕ → Bool) (j : ℕ) → j < n → cond (ltb j n) (eqb (coefficient (response n w) (n - 1 - j)) 1) false ≡ w j

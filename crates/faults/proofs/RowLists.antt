@@ -10,13 +10,12 @@ use Rattle.std.proofs.Math.Seq.{take-add, drop-cons}
 use Rattle.gf2.specs.Polynomials.{coefficient}
 use Rattle.gf2.specs.Responses.{response}
 use Rattle.faults.specs.Meaning.{Fault, Lawful, good, entry}
-use Rattle.faults.specs.Lawful.{entry_each}
 use Rattle.faults.specs.Filling.{Follows}
 use Rattle.faults.specs.Rows.{RowKept, stride, row, marked, rowed, by_rows}
 use Rattle.gf2.specs.Tables.{combination}
 use Rattle.gf2.proofs.Responses.{response_same, response_below}
 use Rattle.gf2.proofs.Tables.{combination_zero}
-use Rattle.faults.proofs.Errors.{response_quiet}
+use Rattle.faults.proofs.Errors.{entry_each, response_quiet}
 use Rattle.faults.proofs.Parts.{combination_parts}
 use lib.Bits.{bit_xor, xor_assoc, xor_zero_r}
 

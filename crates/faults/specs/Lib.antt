@@ -5,4 +5,3 @@ pub mod Clocks
 pub mod Rows
 pub mod ClockLists
 pub mod RowLists
-pub mod Lawful

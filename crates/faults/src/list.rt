@@ -37,7 +37,4 @@ pub trait FaultList {
         };
         pick(words, |clock| self.wrong(i, clock))
     }
-
-    // Every list keeps the rules.
-    ghost lawful: { (s : Self) → Lawful (means s) };
 }

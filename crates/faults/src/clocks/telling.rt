@@ -6,7 +6,6 @@ ghost use Rattle.std.specs.List.Sorted.{IsStrictlyIncreasing};
 ghost use Rattle.faults.specs.Meaning.{entry, wrong};
 ghost use Rattle.faults.specs.Clocks.{Below, Kept, among, blank, part};
 ghost use Rattle.faults.specs.ClockLists.{clock_list};
-ghost use Rattle.faults.specs.Lawful.{clock_list_lawful};
 
 use super::ClockList;
 use crate::fault_record::FaultRecord;
@@ -14,8 +13,6 @@ use crate::list::FaultList;
 
 impl<'a> FaultList for ClockList<'a> {
     ghost means = { λ s. clock_list s };
-
-    ghost lawful = { clock_list_lawful };
 
     fn clocks(&self) -> usize {
         self.n

@@ -6,7 +6,6 @@ ghost use Rattle.gf2.specs.Tables.{combination};
 ghost use Rattle.faults.specs.Meaning.{entry, wrong};
 ghost use Rattle.faults.specs.Rows.{stride, marked};
 ghost use Rattle.faults.specs.RowLists.{row_list};
-ghost use Rattle.faults.specs.Lawful.{row_list_lawful};
 
 use super::{RowList, row_bytes};
 use crate::list::FaultList;
@@ -14,8 +13,6 @@ use crate::picking::pick;
 
 impl<'a> FaultList for RowList<'a> {
     ghost means = { λ s. row_list s };
-
-    ghost lawful = { row_list_lawful };
 
     fn clocks(&self) -> usize {
         self.n

@@ -4,5 +4,4 @@ use Rattle.apart.proofs.entry_words.residues_by.Goals as goal
 
 pub returns : goal.returns
 returns g c i =
-    let lawful = g.met.L.FaultList.lawful c.args.list.now in
-    c.words.ensures i ∙ combined_residue c.args.feedback.code (g.L.FaultList.means c.args.list.now) i c.powers.new.table lawful c.powers.ensures (omega arith)
+    c.words.ensures i ∙ combined_residue c.args.feedback.code (g.L.FaultList.means c.args.list.now) i c.powers.new.table c.requires.lawful c.powers.ensures (omega arith)

@@ -1,4 +1,4 @@
-use Rattle.faults.specs.Lawful.{clock_list_lawful}
+use Rattle.faults.proofs.Lawful.{clock_list_lawful}
 use Rattle.faults.proofs.clocks.telling.ClockListFaultList.clocks.Goals as goal
 
 pub returns-clause-lawful : goal.returns-clause-lawful

@@ -1,4 +1,4 @@
-use Rattle.faults.specs.Lawful.{row_list_lawful}
+use Rattle.faults.proofs.Lawful.{row_list_lawful}
 use Rattle.faults.proofs.rows.telling.RowListFaultList.clocks.Goals as goal
 
 pub returns-clause-lawful : goal.returns-clause-lawful
