@@ -29,6 +29,7 @@ fn residues_by<L: FaultList>(list: &L, feedback: Feedback, powers: &mut [u32]) -
 pub(crate) fn words<L: FaultList>(list: &L, table: &[u32]) -> [u32; MAX_ENTRIES]
     ensures { Words (L.means list.now) table.now result }
 {
+    // By number, up to the last entry: over the array's own items, that the others are still 0 was not proved.
     let mut words = [0; MAX_ENTRIES];
     for i in 0..list.count() + 1 {
         words[i] = list.combine(i, table);

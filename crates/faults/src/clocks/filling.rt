@@ -1,5 +1,5 @@
 // Making a clock list, and filling it from memory.
-ghost use Rattle.std.specs.Prelude.{◌≡◌, ◌↔◌, length, IsTrue};
+ghost use Rattle.std.specs.Prelude.{◌≡◌, ◌↔◌, ◌<◌, length, IsTrue};
 ghost use Rattle.std.specs.List.Sorted.{IsStrictlyIncreasing};
 ghost use Rattle.faults.specs.Meaning.{empty};
 ghost use Rattle.faults.specs.Clocks.{Kept, KeptAt, Below, by_clocks};
@@ -59,7 +59,12 @@ fn rises(n: usize, clocks: &[u16]) -> bool
     ensures { IsTrue result ↔ (Below n clocks.now × IsStrictlyIncreasing clocks.now) }
 {
     clocks.first().is_none_or(|clock| usize::from(*clock) < n)
-        && clocks
-            .windows(2)
-            .all(|pair| pair[0] < pair[1] && usize::from(pair[1]) < n)
+        && clocks.windows(2).all(|pair| follows(n, pair[0], pair[1]))
+}
+
+// Whether a clock comes after the one before it, and below n.
+fn follows(n: usize, before: u16, clock: u16) -> bool
+    ensures { IsTrue result ↔ ((before < clock) × (clock < n)) }
+{
+    before < clock && usize::from(clock) < n
 }
