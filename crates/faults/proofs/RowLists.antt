@@ -1,22 +1,23 @@
 -- The entries of a row list.
-use Rattle.std.proofs.Common.{◌≡◌, ℕ, zero, suc, ◌+◌, ◌-◌, ◌*◌, ◌/◌, ◌%◌, ◌^◌, ◌<◌, ◌≤◌, min, Bool, false, eqb, ◌++◌, length-append, add-one, add-mul, one-mul, zero-mul, le_refl, ◌⊎◌, List, [], ◌∷◌, map, length, get_or, take, drop, length-drop, sym, refl, ap, ◌∙◌, subst, ap₂, inl, inr, arith, pow_pos}
+use Rattle.std.proofs.Common.{◌≡◌, ℕ, zero, suc, ◌+◌, ◌-◌, ◌*◌, ◌/◌, ◌%◌, ◌^◌, ◌<◌, ◌≤◌, min, false, eqb, ◌++◌, length-append, add-one, add-mul, one-mul, zero-mul, le_refl, ◌⊎◌, List, [], ◌∷◌, map, length, get_or, take, drop, reverse, length-drop, sym, refl, ap, ◌∙◌, subst, ap₂, inl, inr, arith, pow_pos}
 use native.Mathlib.Nat.{div-eq_of_lt}
 use native.Mathlib.Decide.{dec_lt}
-use Rattle.std.specs.List.{range_with_len}
+use Rattle.std.specs.List.{range_with_len, enumerate_from}
 use Rattle.std.proofs.lemmas.List.FromFn.{length-map-range_with_len, get_or-map-range_with_len}
-use Rattle.std.proofs.lemmas.List.{get_or_past, take_all, length-take, length-take-le}
+use Rattle.std.proofs.lemmas.List.{get_or_past, append-nil, reverse-append, take_all, take_at, length-take, length-take-le, length-reverse}
 use Rattle.std.proofs.lemmas.Nat.{mul-le}
 use Rattle.std.proofs.Math.Seq.{take-add, drop-cons}
 use Rattle.gf2.specs.Polynomials.{coefficient}
 use Rattle.gf2.specs.Responses.{response}
 use Rattle.faults.specs.Meaning.{Fault, Lawful, good, entry}
 use Rattle.faults.specs.Filling.{Follows}
-use Rattle.faults.specs.Rows.{RowKept, stride, row, marked, rowed, by_rows}
+use Rattle.faults.specs.Rows.{RowKept, stride, row, marked, marks, words_at, rowed, by_rows}
 use Rattle.gf2.specs.Tables.{combination}
 use Rattle.gf2.proofs.Responses.{response_same, response_below}
 use Rattle.gf2.proofs.Tables.{combination_zero}
 use Rattle.faults.proofs.Errors.{entry_each, response_quiet}
 use Rattle.faults.proofs.Parts.{combination_parts}
+use Rattle.faults.proofs.Words.{At, at}
 use lib.Bits.{bit_xor, xor_assoc, xor_zero_r}
 
 zero_coefficient : (i : ℕ) → eqb (coefficient 0 i) 1 ≡ false
@@ -126,10 +127,6 @@ marked_byte bytes b k h =
 pub zero_byte : (bytes : List ℕ) (b : ℕ) → get_or bytes b 0 ≡ 0 → (k : ℕ) → k < 8 → marked bytes (8 * b + k) ≡ false
 zero_byte bytes b e k h = marked_byte bytes b k h ∙ ap (λ x. eqb (coefficient x (7 - k)) 1) e ∙ zero_coefficient (7 - k)
 
--- where a byte has a 1, from its highest bit
-abbrev pub marks : ℕ → ℕ → Bool
-marks byte k = eqb (coefficient byte (7 - k)) 1
-
 marked_first : (byte : ℕ) (bytes : List ℕ) (k : ℕ) → k < 8 → marked (byte ∷ bytes) k ≡ marks byte k
 marked_first byte bytes k h =
     let q : k / 8 ≡ 0 = omega arith in
@@ -143,23 +140,40 @@ marked_later byte bytes k =
     ap₂ (λ x y. eqb (coefficient (get_or (byte ∷ bytes) x 0) (7 - y)) 1) q r
 
 -- the words of the byte at a place, and those before them
-words_at : List ℕ → ℕ → List ℕ
-words_at words place =
-    let low = length words - 8 * (place + 1) in
-    take (length words - 8 * place - low) (drop low words)
-
-length-words_at : (words : List ℕ) (place : ℕ) → length (words_at words place) ≡ min 8 (length words - 8 * place)
-unfolding words_at
+pub length-words_at : (words : List ℕ) (place : ℕ) → length (words_at words place) ≡ min 8 (length words - 8 * place)
 length-words_at words place =
     let low = length words - 8 * (place + 1) in
-    omega (arith, length-take (length words - 8 * place - low) (drop low words), length-drop low words)
+    omega (arith, length-take (min 8 (length words - 8 * place)) (drop low words), length-drop low words)
 
-words_cut : (words : List ℕ) (place : ℕ) → take (length words - 8 * (place + 1)) words ++ words_at words place ≡ take (length words - 8 * place) words
-unfolding words_at
+pub words_cut : (words : List ℕ) (place : ℕ) → take (length words - 8 * (place + 1)) words ++ words_at words place ≡ take (length words - 8 * place) words
 words_cut words place =
     let low = length words - 8 * (place + 1) in
-    let high : low + (length words - 8 * place - low) ≡ length words - 8 * place = omega arith in
-    sym (take-add low (length words - 8 * place - low) words) ∙ ap (λ k. take k words) high
+    let high : low + min 8 (length words - 8 * place) ≡ length words - 8 * place = omega arith in
+    sym (take-add low (min 8 (length words - 8 * place)) words) ∙ ap (λ k. take k words) high
+
+-- of the words that are left, the last eight, the last one first
+last_eight : (words : List ℕ) (place : ℕ) → take 8 (reverse (take (length words - 8 * place) words)) ≡ reverse (words_at words place)
+last_eight words place =
+    let low = length words - 8 * (place + 1) in
+    let eight = words_at words place in
+    ap (λ l. take 8 (reverse l)) (sym (words_cut words place)) ∙ ap (take 8) (reverse-append (take low words) eight) ∙ by (dec_lt (length eight) 8)
+  where
+    by : Dec (length (words_at words place) < 8) → take 8 (reverse (words_at words place) ++ reverse (take (length words - 8 * (place + 1)) words)) ≡ reverse (words_at words place)
+    by (no l) =
+        let eight = words_at words place in
+        take_at (reverse eight) (reverse (take (length words - 8 * (place + 1)) words)) 8 (length-reverse eight ∙ omega (arith, length-words_at words place))
+    by (yes l) =
+        let eight = words_at words place in
+        let none : length words - 8 * (place + 1) ≡ 0 = omega (arith, length-words_at words place) in
+        ap (λ k. take 8 (reverse eight ++ reverse (take k words))) none
+        ∙ ap (take 8) (append-nil (reverse eight))
+        ∙ take_all 8 (reverse eight) (omega (arith, length-reverse eight))
+
+pub at_eight : (words : List ℕ) (place k : ℕ) (p : ℕ × ℕ)
+    → let back = enumerate_from 0 (take 8 (reverse (take (length words - 8 * place) words))) in (k < length back) × (p ≡ get_or back k p) → At (words_at words place) k p
+at_eight words place k p turn =
+    let there = subst (λ l. (k < length (enumerate_from 0 l)) × (p ≡ get_or (enumerate_from 0 l) k p)) (last_eight words place) turn in
+    at (words_at words place) k p there.0 there.1
 
 -- a byte picks from its words, and the other bytes pick from the words before those
 module _ (front eight : List ℕ) (byte : ℕ) (bytes : List ℕ) (long : length eight ≡ min 8 (length (front ++ eight))) where

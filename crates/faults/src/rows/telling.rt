@@ -1,15 +1,14 @@
 // What a row list tells.
-ghost use Rattle.std.specs.Prelude.{◌≡◌, ℕ, ◌+◌, ◌-◌, ◌<◌, ◌≤◌, length, ◌==◌, ◌*◌, ◌++◌, take, min};
+ghost use Rattle.std.specs.Prelude.{◌≡◌, ℕ, ◌+◌, ◌-◌, ◌<◌, ◌≤◌, length, ◌==◌, ◌*◌};
 ghost use Rattle.gf2.specs.Polynomials.{coefficient};
 ghost use Rattle.gf2.specs.Responses.{response};
 ghost use Rattle.gf2.specs.Tables.{combination};
 ghost use Rattle.faults.specs.Meaning.{entry, wrong};
-ghost use Rattle.faults.specs.Rows.{stride, marked};
+ghost use Rattle.faults.specs.Rows.{stride, marked, marks, words_at};
 ghost use Rattle.faults.specs.RowLists.{row_list};
 
 use super::{RowList, row_bytes};
 use crate::list::FaultList;
-use crate::picking::pick;
 
 impl<'a> FaultList for RowList<'a> {
     ghost means = { λ s. row_list s };
@@ -87,18 +86,24 @@ fn pick_marked(row: &[u8], words: &[u32]) -> u32
     let mut sum = 0;
     for (place, byte) in row.iter().enumerate() {
         if *byte != 0 {
-            sum ^= pick(words_of(words, place), |clock| bit(*byte, 7 - clock));
+            sum ^= pick_byte(*byte, place, words);
         }
     }
     sum
 }
 
-// The words of the byte at a place: eight, or as many as are left. The first byte has the last words.
-fn words_of(words: &[u32], place: usize) -> &[u32]
+// What the byte at a place picks from its words: eight, or as many as are left. The first byte has the last words.
+fn pick_byte(byte: u8, place: usize, words: &[u32]) -> u32
     requires { 8 * place ≤ length words.now }
-    ensures cut { take (length words.now - 8 * (place + 1)) words.now ++ result.now ≡ take (length words.now - 8 * place) words.now }
-    ensures long { length result.now ≡ min 8 (length words.now - 8 * place) }
+    ensures { result ≡ combination (words_at words.now place) (response (length (words_at words.now place)) (marks byte)) }
 {
-    let end = words.len() - 8 * place;
-    &words[end.saturating_sub(8)..end]
+    // With a loop of its own, which says that they are no more than eight: by `pick`, a choice took a fifth longer.
+    let left = &words[..words.len() - 8 * place];
+    let mut sum = 0;
+    for (clock, word) in left.iter().rev().take(8).enumerate() {
+        if bit(byte, 7 - clock) {
+            sum ^= *word;
+        }
+    }
+    sum
 }

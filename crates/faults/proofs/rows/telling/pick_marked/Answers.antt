@@ -1,5 +1,6 @@
-use Rattle.std.proofs.Common.{◌+◌, get_or, sym, subst, rules}
-use Rattle.faults.proofs.RowLists.{marks, Left, left_more, left_zero, left_end}
+use Rattle.std.proofs.Common.{◌+◌, sym, subst, rules}
+use Rattle.faults.specs.Rows.{words_at}
+use Rattle.faults.proofs.RowLists.{length-words_at, words_cut, Left, left_more, left_zero, left_end}
 use Rattle.faults.proofs.rows.telling.pick_marked.Goals as goal
 use Rattle.faults.proofs.rows.telling.pick_marked.Goals.{then-byte-ne0, else-byte-ne0}
 
@@ -12,9 +13,8 @@ loop-place-preserved c =
     let within = c.loop-place-test.true in
     elim c.if-byte-ne0.branch [
       | then-byte-ne0 v ↦
-          let picks = v.pick-sum.ensures (marks (get_or row place 0)) (λ k b l t. search rules) in
           subst (Left words row (place + 1)) (sym v.sum-is)
-          (left_more words row place sum within v.words_of.result.now v.pick-sum.result v.words_of.ensures.cut v.words_of.ensures.long picks c.loop-place.invariant)
+          (left_more words row place sum within (words_at words place) v.pick_byte-sum.result (words_cut words place) (length-words_at words place) v.pick_byte-sum.ensures c.loop-place.invariant)
       | else-byte-ne0 v ↦ subst (Left words row (place + 1)) (sym v.sum-is) (left_zero words row place sum within v.if-byte-ne0.false c.loop-place.invariant)
     ]
 
