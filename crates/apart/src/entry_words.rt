@@ -14,7 +14,7 @@ pub fn residues<L: FaultList>(list: &L, feedback: Feedback) -> [u32; MAX_ENTRIES
     residues_by(list, feedback, &mut table[..list.clocks()])
 }
 
-// The same, with memory for the powers of x that the list reaches.
+// The same, with memory for the powers of x that the list reaches. That it keeps the rules is asked here, since only `clocks` tells it.
 fn residues_by<L: FaultList>(list: &L, feedback: Feedback, powers: &mut [u32]) -> [u32; MAX_ENTRIES]
     requires lawful { Lawful (L.means list.now) }
     requires long { (L.means list.now).clocks ≤ length powers.old }

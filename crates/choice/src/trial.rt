@@ -9,6 +9,7 @@ use faults::{FaultList, MAX_ENTRIES};
 use gf2::Feedback;
 
 // The residue of each entry's error if the feedback keeps the list apart, and none at the first clash. The memory is for the powers of x that the list reaches.
+// That the list keeps the rules is asked, since only `clocks` tells it.
 pub(crate) fn residues_apart<L: FaultList>(
     list: &L,
     feedback: Feedback,
