@@ -43,6 +43,7 @@ fn choose_among<L: FaultList>(
     }
     let entries = list.count() + 1;
     match first_apart(list, degrees) {
+        // (By place, since the borrow checker does not cover a pattern that moves an array.)
         Some(found) => {
             words[..entries].copy_from_slice(&found.1[..entries]);
             Ok(found.0)

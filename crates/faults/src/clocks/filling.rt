@@ -59,11 +59,13 @@ fn rises(n: usize, clocks: &[u16]) -> bool
     ensures { IsTrue result ↔ (Below n clocks.now × IsStrictlyIncreasing clocks.now) }
 {
     clocks.first().is_none_or(|clock| usize::from(*clock) < n)
-        && clocks.windows(2).all(|pair| follows(n, pair[0], pair[1]))
+        && clocks
+            .windows(2)
+            .all(|pair| comes_after(n, pair[0], pair[1]))
 }
 
 // Whether a clock comes after the one before it, and below n.
-fn follows(n: usize, before: u16, clock: u16) -> bool
+fn comes_after(n: usize, before: u16, clock: u16) -> bool
     ensures { IsTrue result ↔ ((before < clock) × (clock < n)) }
 {
     before < clock && usize::from(clock) < n
